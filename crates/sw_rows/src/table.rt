@@ -58,7 +58,7 @@ fn read_text_field(texts: &mut Texts, at: At, field: &[u8]) -> Result<i64, Refus
     let Some(text) = read_text(field) else {
         return Err(at.fault());
     };
-    match texts.add(text) {
+    match texts.add_unseen(text) {
         Ok(code) => Ok(cell_of(code)),
         Err(e) => Err(e),
     }

@@ -2,7 +2,7 @@
 use Rattle.std.proofs.Common.{◌≡◌, ◌∙◌, ap, sym, refl, ℕ, zero, suc, ◌+◌, ◌-◌, ◌<◌, ◌≤◌, ◌==◌, ◌||◌, Bool, true, false, not, cond, List, [], ◌∷◌, ◌++◌, length, take, get_or, Option, Some, None, Result, Ok, Err, option_map, position, bytes_eq, is_some, slice_get, nat_lt, arith, subst, true≢false, append-nil, append_assoc, length-append}
 use Rattle.std.proofs.Math.ListN.{get_or-append}
 use Rattle.std.proofs.Math.Seq.{take-append_seam}
-use Rattle.std.proofs.lemmas.Bool.{and_parts, cond-false, cond-true, lt-ltb, not-true, not_from_false, not_from_true, or_parts, or_right, true_from_ne_false}
+use Rattle.std.proofs.lemmas.Bool.{and_parts, cond-false, cond-true, lt-ltb, not-true, not_from_false, not_from_true, or_left, or_parts, or_right, true_from_ne_false}
 use Rattle.std.proofs.lemmas.Bool.Decides.{nat_tests}
 use Rattle.std.proofs.lemmas.List.Elements.{All-weaker}
 use Rattle.std.proofs.lemmas.List.Quantifiers.{position-Some}
@@ -11,6 +11,7 @@ use Rattle.std.proofs.lemmas.Option.{none-some, same_Some, slice_get-get_or, sli
 use Rattle.std.proofs.lemmas.Slice.Eq.{bytes_eq-Decides}
 use Rattle.std.specs.List.{position_or_len}
 use Rattle.std.specs.Option.{option_map_or}
+use Rattle.sw_rows.specs.Adding.{Adds}
 use Rattle.sw_rows.specs.Faults.{Fault, too_many}
 use Rattle.sw_rows.specs.Recent.{AreTrueOf}
 use Rattle.sw_rows.specs.Slots.{IsTrueOf, text_in}
@@ -103,6 +104,17 @@ known ts code t h =
 -- and is given that code
 pub given_known : (ts : Texts) (code : ℕ) (t : List ℕ) → code_of ts t ≡ Some code → code_given ts t ≡ Ok code
 given_known ts code t h = ap (λ o. option_map_or (λ n. Ok n) o (next_code ts)) h
+
+-- so adding it changes nothing
+pub adds_known : (ts : Texts) (code : ℕ) (t : List ℕ) → code_of ts t ≡ Some code → code ≤ MOST_TEXTS → Adds ts t ts (Ok code)
+adds_known ts code t h few = record {
+  code = given_known ts code t h;
+  few = few;
+  added = sym (cond-true (has_text ts t || are_full ts) ts (ts ++ t ∷ []) (or_left (has_text ts t) (are_full ts) (known ts code t h)));
+  refused = tt;
+  known = λ there. refl;
+  full = λ none. absurd (err-ok (too_many MOST_TEXTS) code (sym none ∙ given_known ts code t h));
+}
 
 -- a code is one of 1 to the number of texts
 pub code_within : (ts : Texts) (code : ℕ) (t : List ℕ) → code_of ts t ≡ Some code → (0 < code) × (code ≤ length ts)
@@ -216,12 +228,28 @@ code_of_new ts t h room =
     let inside : length ts < length (ts ++ t ∷ []) = omega arith in
     ap (λ us. code_of us t) (cond-false (has_text ts t || are_full ts) ts (ts ++ t ∷ []) (neither (has_text ts t) (are_full ts) h room)) ∙ coded (ts ++ t ∷ []) (length ts) (length ts + 1) t refl (position_is (bytes_eq t) (ts ++ t ∷ []) (length ts) (last_at ts t h) inside)
 
--- a new text comes last, with the next code, and what came lately is still so
-pub recent_grown : (ts : Texts) (t : List ℕ) (r : Recent) → has_text ts t ≡ false → length ts < MOST_TEXTS → AreTrueOf ts r → (code_of (ts ++ t ∷ []) t ≡ Some (length ts + 1)) × AreTrueOf (ts ++ t ∷ []) r
-recent_grown ts t r new few was =
-    let room : are_full ts ≡ false = grind (arith, nat_tests) in
-    let last : with_text ts t ≡ ts ++ t ∷ [] = cond-false (has_text ts t || are_full ts) ts (ts ++ t ∷ []) (neither (has_text ts t) (are_full ts) new room) in
-    (ap (λ us. code_of us t) (sym last) ∙ code_of_new ts t new room, subst (λ us. AreTrueOf us r) last (recent_kept ts (t ∷ []) r was))
+at_most_all : (ts : Texts) (t : List ℕ) → position_or_len (bytes_eq t) ts ≤ length ts
+at_most_all [] t = omega arith
+at_most_all (s ∷ ts) t = by_test (not (bytes_eq t s)) (at_most_all ts t)
+  where
+    by_test : (b : Bool) → position_or_len (bytes_eq t) ts ≤ length ts → cond b (1 + position_or_len (bytes_eq t) ts) 0 ≤ suc (length ts)
+    by_test true low = omega arith
+    by_test false low = omega arith
+
+-- where there is room, a text is given one more than its place, which is behind all where it is new
+pub given_at : (ts : Texts) (t : List ℕ) → length ts < MOST_TEXTS → code_given ts t ≡ Ok (position_or_len (bytes_eq t) ts + 1)
+given_at ts t few = by_test (nat_lt place (length ts)) refl
+  where
+    place : ℕ
+    place = position_or_len (bytes_eq t) ts
+
+    by_test : (b : Bool) → nat_lt place (length ts) ≡ b → code_given ts t ≡ Ok (place + 1)
+    by_test true e = rw e refl
+    by_test false e =
+        let room : are_full ts ≡ false = grind (arith, nat_tests) in
+        let most : place ≤ length ts = at_most_all ts t in
+        let all : place ≡ length ts = grind (arith, nat_tests) in
+        rw (e, room, all) refl
 
 -- the code that a text is given is its code from then on
 pub given_kept : (ts : Texts) (t : List ℕ) (code : ℕ) → code_given ts t ≡ Ok code → code_of (with_text ts t) t ≡ Some code

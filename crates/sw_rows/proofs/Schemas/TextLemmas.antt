@@ -1,5 +1,6 @@
 -- An indexed set of strings as a list of texts, and what holds of the texts after a step.
 use Rattle.std.proofs.Common.{◌≡◌, ◌∙◌, ap, sym, refl, ℕ, ◌+◌, ◌<◌, ◌≤◌, Bool, true, false, not, cond, zero, suc, ◌||◌, ◌&&◌, List, [], ◌∷◌, ◌++◌, map, length, take, position, bytes_eq, String, string_bytes, nat_le, leb-false, Option, Some, option_map, slice_get, subst, arith, true≢false, length-append, IsUtf8}
+use Rattle.std.proofs.lemmas.Bool.Decides.{nat_tests}
 use Rattle.std.proofs.lemmas.Bool.{and_from, and_parts, cond-false, le-leb, not-true, not_from_false, or_parts}
 use Rattle.std.proofs.lemmas.List.{map-append}
 use Rattle.std.proofs.lemmas.List.Folds.{list_all-append}
@@ -31,6 +32,10 @@ long-same (k ∷ ks) = ap suc (long-same ks)
 text_place : (text : List ℕ) (ks : Strings) → position (λ k. bytes_eq text (string_bytes k)) ks ≡ position (bytes_eq text) (map string_bytes ks)
 text_place text ks = cc (first-same text ks, long-same ks)
 
+-- the place that a string has or gets is that of its text
+pub text_index : (text : List ℕ) (ks : Strings) (ts : List (List ℕ)) (k : String Global) → map string_bytes ks ≡ ts → string_bytes k ≡ text → position_or_len (string_eq k) ks ≡ position_or_len (bytes_eq text) ts
+text_index text ks ts k same kept = first-same (string_bytes k) ks ∙ (λ j. position_or_len (bytes_eq (kept j)) (same j))
+
 -- the set has the texts that stand in the list
 text_known : (text : List ℕ) (ks : Strings) → list_any (λ k. bytes_eq text (string_bytes k)) ks ≡ has_text (map string_bytes ks) text
 text_known text [] = refl
@@ -52,6 +57,19 @@ text_last ks k h =
 -- a string that goes in new stands last
 pub text_inserted : (text : List ℕ) (ks : Strings) (ts : List (List ℕ)) (k : String Global) → map string_bytes ks ≡ ts → string_bytes k ≡ text → has_text ts text ≡ false → map string_bytes (insert_key string_eq ks k) ≡ ts ++ text ∷ []
 text_inserted text ks ts k same kept new = text_last ks k (ap (λ us. has_text us (string_bytes k)) same ∙ ap (has_text ts) kept ∙ new) ∙ (λ j. same j ++ kept j ∷ [])
+
+-- a string that goes in, new or not, where there is room
+pub text_put : (text : List ℕ) (ks : Strings) (ts : List (List ℕ)) (k : String Global) → map string_bytes ks ≡ ts → string_bytes k ≡ text → length ts < MOST_TEXTS → map string_bytes (insert_key string_eq ks k) ≡ with_text ts text
+text_put text ks ts k same kept few = by_test (has_text ts text) refl
+  where
+    room : are_full ts ≡ false
+    room = grind (arith, nat_tests)
+
+    by_test : (b : Bool) → has_text ts text ≡ b → map string_bytes (insert_key string_eq ks k) ≡ with_text ts text
+    by_test true e =
+        let there : list_any (string_eq k) ks ≡ true = text_known (string_bytes k) ks ∙ ap (λ us. has_text us (string_bytes k)) same ∙ ap (has_text ts) kept ∙ e in
+        rw (there, e) same
+    by_test false e = text_inserted text ks ts k same kept e ∙ rw (e, room) refl
 
 -- ---- one more text
 

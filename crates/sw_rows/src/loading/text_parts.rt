@@ -51,7 +51,7 @@ fn add_texts(alloc: Global, texts: &mut Texts, more: &Texts) -> Option<Vec<i64>>
         let Some(text) = more.text(place as u64 + 1) else {
             unreachable!()
         };
-        let Ok(code) = texts.add(text) else {
+        let Ok(code) = texts.add_one_of(text, more.len()) else {
             return None;
         };
         if codes.push(cell_of(code)).is_err() {

@@ -15,13 +15,16 @@ use std::alloc::Global;
 const FEWEST_HINTS: usize = 2_048;
 
 /// How many hints there are at most.
-const MOST_HINTS: usize = 65_536;
+const MOST_HINTS: usize = 131_072;
 
 /// How many slots there are at most: their numbers fit a hint.
-const MOST_SLOTS: usize = 65_535;
+pub(crate) const MOST_SLOTS: usize = 65_535;
 
-/// How many hints there are for each one, where texts come to be more than two thirds of them.
+/// How many hints come in the place of each, where texts come to be more than two thirds of them and they are not many yet.
 const GROWTH: usize = 16;
+
+/// From so many on, hints are only doubled.
+const MANY_HINTS: usize = 32_768;
 
 /// In how many hints a text may be found.
 const NEIGHBOURS: usize = 6;
@@ -95,7 +98,8 @@ impl Recent {
     {
         let many = self.hints.len();
         if many < MOST_HINTS && many / 3 * 2 < texts {
-            let wanted = (many * GROWTH).clamp(FEWEST_HINTS, MOST_HINTS);
+            let growth = if many < MANY_HINTS { GROWTH } else { 2 };
+            let wanted = (many * growth).clamp(FEWEST_HINTS, MOST_HINTS);
             self.clear();
             let _ = self.hints.resize(wanted, 0u16);
         }

@@ -5,7 +5,7 @@ ghost use Rattle.sw_rows.specs.Slots.{IsSlotOf, bytes_of};
 ghost use Rattle.sw_rows.specs.declared.schema.texts.TheConstants.{MOST_TEXTS};
 
 /// How many bytes a text has at most that a slot has.
-const MOST_BYTES: usize = 24;
+pub(crate) const MOST_BYTES: usize = 24;
 
 /// The eight bytes from a place on, as a number.
 #[inline]

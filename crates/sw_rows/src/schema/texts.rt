@@ -1,13 +1,13 @@
 //! Texts of cells, each with a code that stands for it.
 
-ghost use Rattle.std.specs.Prelude.{[], ◌≡◌, ◌≤◌, length, pos, take, true, if◌then◌else◌, is_some, option_map, List, None, Some, IfOk, IfSome, IsOk, OnErr, OnOk};
+ghost use Rattle.std.specs.Prelude.{[], ◌≡◌, ◌≤◌, length, pos, take, true, if◌then◌else◌, ◌<◌, is_some, option_map, List, None, Ok, Some, IfErr, IfOk, IfSome, OnErr, OnOk};
 ghost use Rattle.std.specs.List.{list_all};
-ghost use Rattle.sw_rows.specs.Gives.{Gives};
-ghost use Rattle.sw_rows.specs.Header.{too_many};
+ghost use Rattle.sw_rows.specs.Adding.{Adds};
 ghost use Rattle.sw_rows.specs.Texts.{code_given, code_of, has_text, is_text, is_text_byte, text_of, with_text, AreTexts};
 ghost use Rattle.sw_rows.specs.declared.schema.texts.TheConstants.{MOST_TEXTS};
 
-use crate::schema::recent::Recent;
+use crate::schema::recent::{MOST_SLOTS, Recent};
+use crate::schema::slot::MOST_BYTES as MOST_BYTES_OF_SLOT;
 use crate::schema::text_key::TextKey;
 use indexmap::IndexSet;
 use std::alloc::Global;
@@ -148,39 +148,81 @@ impl Texts {
     ///
     /// Refused `TooMany` of limit `MOST_TEXTS` where the text is new and there are as many, and `NoMemory` where there
     /// is no memory for a new one: nothing has changed then. A known text is never refused.
-    #[tactic(auto, using(crate::proofs::Schemas::TextLemmas::text_inserted))]
     pub fn add(&mut self, text: &str) -> Result<u64, Refusal>
         requires { is_text text.now ≡ true }
-        ensures code { Gives ⊥ (λ code. code) result (code_given self.old text.now) }
+        ensures { Adds self.old text.now self.new result }
+    {
+        match self.seen(text.as_bytes()) {
+            Some(code) => Ok(code),
+            None => self.add_unseen(text),
+        }
+    }
+
+    /// The same, for one of so many texts. Where they are more than can have come lately, none is looked for there.
+    pub(crate) fn add_one_of(&mut self, text: &str, many: usize) -> Result<u64, Refusal>
+        requires { is_text text.now ≡ true }
+        ensures { Adds self.old text.now self.new result }
+    {
+        if many <= MOST_SLOTS {
+            self.add(text)
+        } else {
+            self.add_by_hash(text)
+        }
+    }
+
+    /// The same, for a text that `seen` does not find.
+    pub(crate) fn add_unseen(&mut self, text: &str) -> Result<u64, Refusal>
+        requires { is_text text.now ≡ true }
+        ensures { Adds self.old text.now self.new result }
+    {
+        match self.add_by_hash(text) {
+            Ok(code) => {
+                self.recent.note(text.as_bytes(), code, self.texts.len());
+                Ok(code)
+            }
+            Err(e) => Err(e),
+        }
+    }
+
+    /// The same, without a look at what came lately.
+    fn add_by_hash(&mut self, text: &str) -> Result<u64, Refusal>
+        requires { is_text text.now ≡ true }
+        ensures { Adds self.old text.now self.new result }
+    {
+        let is_full = self.len() as u64 >= MOST_TEXTS;
+        // a short one is most likely new, and is put at once; where there is no memory for that, it may be known
+        if text.len() <= MOST_BYTES_OF_SLOT && !is_full {
+            if let Ok(code) = self.put(text) {
+                return Ok(code);
+            }
+        }
+        match self.code_by_hash(text) {
+            Some(code) => Ok(code),
+            None if is_full => Err(Refusal::TooMany { limit: MOST_TEXTS }),
+            None => self.put(text),
+        }
+    }
+
+    /// Puts a text behind the others where none of them is the same, and tells its code.
+    ///
+    /// Refused `NoMemory` where there is no memory for it: nothing has changed then.
+    fn put(&mut self, text: &str) -> Result<u64, Refusal>
+        requires few { length self.old < MOST_TEXTS }
+        requires text { is_text text.now ≡ true }
+        ensures code { IfOk result (λ code. code_given self.old text.now ≡ Ok code) }
         ensures few { IfOk result (λ code. code ≤ MOST_TEXTS) }
         ensures added { OnOk result (self.new ≡ with_text self.old text.now) }
-        ensures refused { OnErr result (self.new ≡ self.old) }
-        ensures known { has_text self.old text.now ≡ true → IsOk result }
-        ensures full { code_given self.old text.now ≡ Err (too_many MOST_TEXTS)
-            → result ≡ Err (Refusal.TooMany MOST_TEXTS) }
+        ensures refused { IfErr result (λ e. e ≡ Refusal.NoMemory) }
+        ensures unchanged { OnErr result (self.new ≡ self.old) }
     {
-        if let Some(code) = self.seen(text.as_bytes()) {
-            return Ok(code);
-        }
-        if let Some(code) = self.code_by_hash(text) {
-            self.recent.note(text.as_bytes(), code, self.texts.len());
-            return Ok(code);
-        }
-        let count = self.len() as u64;
-        if count >= MOST_TEXTS {
-            return Err(Refusal::TooMany { limit: MOST_TEXTS });
-        }
         let alloc = *self.texts.allocator();
         let Ok(owned) = String::from_str(alloc, text) else {
             return Err(Refusal::NoMemory);
         };
-        match self.texts.insert(owned) {
-            Ok(_) => {}
-            Err(_) => return Err(Refusal::NoMemory),
+        match self.texts.insert_full(owned) {
+            Ok((place, _)) => Ok(place as u64 + 1),
+            Err(_) => Err(Refusal::NoMemory),
         }
-        self.recent
-            .note(text.as_bytes(), count + 1, self.texts.len());
-        Ok(count + 1)
     }
 
     /// Takes back the texts that came last, so that the first `len` are left. Where there are no more, nothing changes.
