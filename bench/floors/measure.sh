@@ -3,8 +3,9 @@
 # compared. For each mix of calls it prints the medians of the heads' seconds, of the peer's calls and of the floor: by blocks without branches, by
 # AVX-512, by the peer's two cursors; by blocks where a key map grows in a merge, where maps ask for blocks of 1,024 cells, where a tape has no end,
 # where the threads of maps sleep in place of spinning, where besides two maps are cracked together if a thread is not worth its start, and where two
-# threads make the calls by turns. Then the load of an attribute of texts beside that of numbers, and the floor of one thread for both; the memory of a
-# million entries; and, on four processors, visits of one lock by one thread and by four. What follows the mixes is left out where mixes are named.
+# threads make the calls by turns. Then the load of an attribute of texts beside that of numbers, and the floor of one thread and of four for both; the
+# memory of a million entries; and, on four processors, visits of one lock by one thread and by four. What follows the mixes is left out where mixes are
+# named.
 # Usage: bench/floors/measure.sh [ROWS [ROUNDS [MIX:CALLS..]]]
 set -euo pipefail
 . "$(dirname "$0")/../program.sh"
@@ -80,10 +81,15 @@ for _ in range(rounds):
     for kind in ("sip", "weak", "cut", "ints"):
         words = [work + "/floors", "texts", f"{work}/{'code' if kind == 'ints' else 'text'}.csv", kind]
         found.setdefault(kind, []).append(float(subprocess.run(words, stdout=subprocess.PIPE, check=True).stdout.split()[0]) / 1000)
+    for kind in ("near", "sip", "ints"):
+        words = [work + "/floors", "loads", f"{work}/{'code' if kind == 'ints' else 'text'}.csv", kind, "4"]
+        found.setdefault("load " + kind, []).append(float(subprocess.run(words, stdout=subprocess.PIPE, check=True).stdout.split()[0]) / 1000)
 of = {name: statistics.median(times) for name, times in found.items()}
+more = {name: statistics.median(a - b for a, b in zip(found[name], found[numbers])) for name, numbers in [("load near", "load ints"), ("load sip", "load ints"), ("text", "code")]}
 print(f"texts of {lengths} bytes: load {of['text']:.3f} s, codes {of['code']:.3f} s, ratio {of['text'] / of['code']:.2f}; one thread reads the records in {of['sip']:.3f} s under SipHash-1-3, "
-      f"{of['weak']:.3f} s under a hash without a key, {of['cut']:.3f} s without codes, numbers in {of['ints']:.3f} s; so the floor, in four threads: "
-      f"{1 + (of['sip'] - of['ints']) / 4 / of['code']:.2f}, in one {1 + (of['sip'] - of['ints']) / of['code']:.2f}", flush=True)
+      f"{of['weak']:.3f} s under a hash without a key, {of['cut']:.3f} s without codes, numbers in {of['ints']:.3f} s; four threads load texts in {of['load near']:.3f} s by their ends, in "
+      f"{of['load sip']:.3f} s under the key, numbers in {of['load ints']:.3f} s; texts take {more['load near']:.3f}, {more['load sip']:.3f} and in the program {more['text']:.3f} s more than numbers, "
+      f"so the floor of the ratio is {1 + min(more['load near'], more['load sip']) / of['code']:.2f}", flush=True)
 PY
 done
 for bytes in "120 176 1000000" "120 176 8192" "24 48 8192"; do

@@ -41,8 +41,9 @@ for _ in range(rounds):
         assert told.setdefault(script, replies) == replies, (script, table)
 of = {key: statistics.median(values) for key, values in times.items()}
 load, plain = of["one", "text"], of["one", "code"]
+by_rounds = statistics.median(a / b for a, b in zip(times["one", "text"], times["one", "code"]))
 counts, numbers = of["equal", "text"] - load, of["equal", "code"] - plain
-print(f"texts of {lengths} bytes: load {load:.3f} s, codes {plain:.3f} s, ratio {load / plain:.2f} (least "
+print(f"texts of {lengths} bytes: load {load:.3f} s, codes {plain:.3f} s, ratio {load / plain:.2f} (median of the rounds' own {by_rounds:.2f}; least "
       f"{min(times['one', 'text']) / min(times['one', 'code']):.2f}), to codes of as many bytes {load / of['one', 'wide']:.2f}; 20,000 counts {counts:.3f} s, over numbers {numbers:.3f} s, ratio {counts / numbers:.2f}", flush=True)
 PY
 done
