@@ -1,19 +1,23 @@
 //! Tables of comma-separated values.
 
-ghost use Rattle.std.specs.Prelude.{[], ◌++◌, ◌≡◌, ◌<◌, ◌≤◌, ℕ, List, drop, false, length, Err, Ok, Some, IfOk, OnErr, OnOk, slice_get};
+ghost use Rattle.std.specs.Prelude.{[], ◌++◌, ◌+◌, ◌≡◌, ◌<◌, ◌≤◌, ℕ, List, drop, false, length, Err, Ok, Some, IfOk, OnErr, OnOk, slice_get};
 ghost use Rattle.csv.specs.Records.{fields_of};
+ghost use Rattle.sw_rows.specs.Groups.{AreKnown, MayHaveCode};
 ghost use Rattle.sw_rows.specs.Cells.{HasPlaces};
 ghost use Rattle.sw_rows.specs.Domains.{domain};
 ghost use Rattle.sw_rows.specs.Domains as kind;
 ghost use Rattle.sw_rows.specs.Gives.{Gives};
 ghost use Rattle.sw_rows.specs.Header.{kinds_of};
 ghost use Rattle.sw_rows.specs.Records.{IsPlain, left_in};
-ghost use Rattle.sw_rows.specs.Tables.{padded, shown_packed, table_in, table_of_records, text_field, NoText, GivesCell, GivesCells, GivesRowsOf, table_seeing, with_fields, with_records};
+ghost use Rattle.sw_rows.specs.Tables.{padded, shown_packed, table_in, table_of_records, text_field, NoText, GivesCell, GivesCells, GivesRowsBehind, GivesRowsOf, table_seeing, with_fields, with_records};
 ghost use Rattle.sw_rows.specs.Texts.{is_text, with_texts};
 ghost use Rattle.sw_rows.specs.declared.table.TheConstants.{MOST_ROWS};
 ghost use Rattle.sw_table.specs.Packed.{zeros};
 
 pub(crate) mod cell;
+pub(crate) mod group;
+pub(crate) mod known;
+pub(crate) mod numbered;
 pub(crate) mod records;
 
 use crate::kind::Kind;
@@ -23,11 +27,14 @@ use crate::schema::text_key::TextKey;
 use crate::schema::texts::{Texts, cell_of, read_text};
 use crate::schema::{Columns, Fields, Schema, read_header};
 use crate::table::cell::read_cell_bytes;
+use crate::table::group::{Group, TOGETHER};
+use crate::table::known::Known;
+use crate::table::numbered::NumberedRows;
 use crate::table::records::Records;
 use csv::ByteRecord;
 use std::alloc::Global;
 use sw_query::Refusal;
-use sw_table::{PackedRows, Row};
+use sw_table::PackedRows;
 
 /// The place of a field: its record's number and its own, both from 1.
 #[derive(Clone, Copy)]
@@ -46,14 +53,15 @@ impl At {
     }
 }
 
-/// Reads a field of texts: the code of its text, which is added where it is new.
-fn read_text_field(texts: &mut Texts, at: At, field: &[u8]) -> Result<i64, Refusal>
+/// Reads a field of texts: the code of its text, if that is not known, and adds the text where it is new.
+fn read_text_field(texts: &mut Texts, at: At, field: &[u8], known: u32) -> Result<i64, Refusal>
+    requires { MayHaveCode texts.old field.now known }
     ensures gives { GivesCell at.rec at.field texts.old (kind.Text []) field.now result }
     ensures learned { OnOk result (texts.new ≡ with_texts texts.old (text_field (kind.Text []) field.now)) }
     ensures no_text { is_text field.now ≡ false → result ≡ Err (Refusal.BadTable at.rec at.field) }
 {
-    if let Some(code) = texts.seen(field) {
-        return Ok(cell_of(code));
+    if known != 0 {
+        return Ok(cell_of(u64::from(known)));
     }
     let Some(text) = read_text(field) else {
         return Err(at.fault());
@@ -65,15 +73,22 @@ fn read_text_field(texts: &mut Texts, at: At, field: &[u8]) -> Result<i64, Refus
 }
 
 /// Reads the field of a cell of a kind.
-fn read_field(kind: Kind, texts: &mut Texts, at: At, field: &[u8]) -> Result<i64, Refusal>
-    requires { HasPlaces kind }
+fn read_field(
+    kind: Kind,
+    texts: &mut Texts,
+    at: At,
+    field: &[u8],
+    known: u32,
+) -> Result<i64, Refusal>
+    requires places { HasPlaces kind }
+    requires known { MayHaveCode texts.old field.now known }
     ensures gives { GivesCell at.rec at.field texts.old (domain [] kind) field.now result }
     ensures learned { OnOk result (texts.new ≡ with_texts texts.old (text_field (domain [] kind) field.now)) }
     ensures no_text { NoText (domain [] kind) field.now
         → OnErr result (result ≡ Err (Refusal.BadTable at.rec at.field)) }
 {
     if let Kind::Text = kind {
-        return read_text_field(texts, at, field);
+        return read_text_field(texts, at, field, known);
     }
     match read_cell_bytes(kind, field) {
         Some(cell) => Ok(cell),
@@ -81,14 +96,16 @@ fn read_field(kind: Kind, texts: &mut Texts, at: At, field: &[u8]) -> Result<i64
     }
 }
 
-/// Reads the cells of record `rec`, and adds its texts.
+/// Reads the cells of record `rec`, of some of which codes are known, and adds its texts.
 fn read_cells(
     columns: &Columns,
     texts: &mut Texts,
     rec: u64,
     row: &ByteRecord,
+    known: &[u32; 8],
 ) -> Result<[i64; 8], Refusal>
-    requires { rec ≤ MOST_ROWS }
+    requires few { rec ≤ MOST_ROWS }
+    requires known { AreKnown texts.old (fields_of row.now) known.now }
     ensures gives { GivesCells rec texts.old columns.now (fields_of row.now) result }
     ensures learned { OnOk result (texts.new ≡ with_fields texts.old columns.now (fields_of row.now)) }
     ensures within { IfOk result (λ cells. drop (length columns.now) cells ≡ drop (length columns.now) zeros) }
@@ -107,6 +124,7 @@ fn read_cells(
             texts,
             At { rec, field },
             row.field(attr),
+            known[attr],
         ) {
             Ok(cell) => cells[attr] = cell,
             Err(e) => return Err(e),
@@ -119,16 +137,46 @@ fn read_cells(
 pub const MOST_ROWS: u64 = 1_048_576;
 
 /// No rows yet, of as many cells as there are attributes.
-pub(crate) fn no_rows(alloc: Global, columns: &Columns) -> PackedRows
+pub(crate) fn no_rows(alloc: Global, columns: &Columns) -> NumberedRows
     requires { 0 < length columns.now }
     ensures { result ≡ record { width = length columns.now; items = [] } }
 {
-    PackedRows::new(alloc, columns.len())
+    NumberedRows::new(alloc, columns.len())
+}
+
+/// Adds the rows of a group, and their texts. After a refusal nothing is told of the rows.
+fn read_group(
+    rows: &mut NumberedRows,
+    columns: &Columns,
+    texts: &mut Texts,
+    group: &Group,
+) -> Result<(), Refusal>
+    requires few { length rows.old.items + length group.now ≤ MOST_ROWS }
+    requires width { rows.old.width ≡ length columns.now }
+    ensures gives { GivesRowsBehind rows.old.items texts.old columns.now group.now rows.new.items result }
+    ensures learned { OnOk result (texts.new ≡ with_records texts.old columns.now group.now) }
+    ensures width { OnOk result (rows.new.width ≡ rows.old.width) }
+    ensures count { OnOk result (length rows.new.items ≡ length rows.old.items + length group.now) }
+{
+    let known = Known::of(columns, texts, group);
+    for place in 0..group.len() {
+        let key = rows.len() as u64 + 1;
+        match read_cells(columns, texts, key, group.row(place), known.at(place)) {
+            Ok(cells) => {
+                if rows.push(&cells).is_err() {
+                    return Err(Refusal::NoMemory);
+                }
+            }
+            Err(e) => return Err(e),
+        }
+    }
+    Ok(())
 }
 
 /// Adds the rows that are left to none, and their texts.
 pub(crate) fn read_rows(
-    mut rows: PackedRows,
+    alloc: Global,
+    mut rows: NumberedRows,
     columns: &Columns,
     texts: &mut Texts,
     records: &mut Records<'_>,
@@ -139,24 +187,20 @@ pub(crate) fn read_rows(
     ensures learned { OnOk result (texts.new ≡ with_records texts.old columns.now (left_in records.old)) }
     ensures width { IfOk result (λ rows. rows.width ≡ length columns.now) }
 {
-    for n in 0..MOST_ROWS {
-        match records.next() {
-            Ok(true) => {}
-            Ok(false) => return Ok(rows),
-            Err(_) => return Err(Refusal::NoMemory),
-        }
-        match read_cells(columns, texts, n + 1, &records.row) {
-            Ok(cells) => {
-                if rows.push(&Row { key: n + 1, cells }).is_err() {
-                    return Err(Refusal::NoMemory);
-                }
-            }
+    let mut group = Group::none(alloc);
+    for _turn in 0..MOST_ROWS / TOGETHER as u64 {
+        let Ok(is_more) = group.fill(records) else {
+            return Err(Refusal::NoMemory);
+        };
+        match read_group(&mut rows, columns, texts, &group) {
+            Ok(()) if is_more => {}
+            Ok(()) => return Ok(rows.into_packed()),
             Err(e) => return Err(e),
         }
     }
     match records.next() {
         Ok(true) => Err(Refusal::TooMany { limit: MOST_ROWS }),
-        Ok(false) => Ok(rows),
+        Ok(false) => Ok(rows.into_packed()),
         Err(_) => Err(Refusal::NoMemory),
     }
 }
@@ -174,7 +218,7 @@ fn read_under(
 {
     let mut texts = columns.no_texts(alloc);
     let none = no_rows(alloc, &columns);
-    match read_rows(none, &columns, &mut texts, records) {
+    match read_rows(alloc, none, &columns, &mut texts, records) {
         Ok(rows) => Ok((columns.into_schema(texts), rows)),
         Err(e) => Err(e),
     }

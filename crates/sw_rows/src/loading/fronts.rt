@@ -89,7 +89,7 @@ fn refused_row(
 {
     let mut texts = columns.no_texts(alloc);
     let most = columns.len() as u64;
-    match read_rows(no_rows(alloc, columns), columns, &mut texts, records) {
+    match read_rows(alloc, no_rows(alloc, columns), columns, &mut texts, records) {
         Err(Refusal::BadTable { rec, field }) if rec == count && field > most => {
             Some(Refusal::BadTable { rec, field })
         }

@@ -17,6 +17,7 @@ use crate::loading::fronts::long_at;
 use crate::loading::text_parts::read_text_table;
 use crate::schema::text_key::TextKey;
 use crate::schema::{Columns, Schema, read_header};
+use crate::table::numbered::NumberedRows;
 use crate::table::records::Records;
 use crate::table::{MOST_ROWS, no_rows, read_long, read_rows, read_whole};
 use std::alloc::Global;
@@ -39,7 +40,12 @@ fn rows_about(part: &[u8]) -> usize {
 
 /// No rows yet, with room for those of about so many parts like this one, where there is memory for it: a page is taken
 /// when it is filled.
-pub(crate) fn no_rows_of(alloc: Global, columns: &Columns, part: &[u8], parts: usize) -> PackedRows
+pub(crate) fn no_rows_of(
+    alloc: Global,
+    columns: &Columns,
+    part: &[u8],
+    parts: usize,
+) -> NumberedRows
     requires { 0 < length columns.now }
     ensures { result ≡ record { width = length columns.now; items = [] } }
 {
@@ -48,7 +54,7 @@ pub(crate) fn no_rows_of(alloc: Global, columns: &Columns, part: &[u8], parts: u
     let many = rows_about(part)
         .saturating_mul(parts)
         .min(MOST_ROWS as usize);
-    let _room = rows.reserve(many);
+    rows.make_room(many);
     rows
 }
 
@@ -68,7 +74,7 @@ fn read_part(
     let mut texts = columns.no_texts(alloc);
     let mut records = Records::of(alloc, part);
     let none = no_rows_of(alloc, columns, part, parts);
-    read_rows(none, columns, &mut texts, &mut records)
+    read_rows(alloc, none, columns, &mut texts, &mut records)
 }
 
 /// Adds the rows of a part, of which each takes the number behind its own.

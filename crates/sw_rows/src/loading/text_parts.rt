@@ -35,7 +35,7 @@ fn read_part(alloc: Global, columns: &Columns, part: &[u8], parts: usize) -> Opt
     let mut texts = columns.no_texts(alloc);
     let mut records = Records::of(alloc, part);
     let none = no_rows_of(alloc, columns, part, parts);
-    match read_rows(none, columns, &mut texts, &mut records) {
+    match read_rows(alloc, none, columns, &mut texts, &mut records) {
         Ok(rows) => Some(Part { rows, texts }),
         Err(_) => None,
     }
