@@ -1,7 +1,7 @@
 pub mod GroupLemmas
 pub mod CellLemmas
 pub mod CellSpelling
-pub mod KnownLemmas
+pub mod SeenLemmas
 pub mod NumberedLemmas
 pub mod RecordLemmas
 pub mod TableLemmas

@@ -2,7 +2,7 @@
 
 ghost use Rattle.std.specs.Prelude.{[], ◌++◌, ◌+◌, ◌≡◌, ◌<◌, ◌≤◌, ℕ, List, drop, false, length, Err, Ok, Some, IfOk, OnErr, OnOk, slice_get};
 ghost use Rattle.csv.specs.Records.{fields_of};
-ghost use Rattle.sw_rows.specs.Groups.{AreKnown, MayHaveCode};
+ghost use Rattle.sw_rows.specs.Groups.{AreSeen, IsCodeOrZero};
 ghost use Rattle.sw_rows.specs.Cells.{HasPlaces};
 ghost use Rattle.sw_rows.specs.Domains.{domain};
 ghost use Rattle.sw_rows.specs.Domains as kind;
@@ -16,9 +16,9 @@ ghost use Rattle.sw_table.specs.Packed.{zeros};
 
 pub(crate) mod cell;
 pub(crate) mod group;
-pub(crate) mod known;
 pub(crate) mod numbered;
 pub(crate) mod records;
+pub(crate) mod seen;
 
 use crate::kind::Kind;
 use crate::loading::cuts::has_no_quote;
@@ -28,9 +28,9 @@ use crate::schema::texts::{Texts, cell_of, read_text};
 use crate::schema::{Columns, Fields, Schema, read_header};
 use crate::table::cell::read_cell_bytes;
 use crate::table::group::{Group, TOGETHER};
-use crate::table::known::Known;
 use crate::table::numbered::NumberedRows;
 use crate::table::records::Records;
+use crate::table::seen::SeenCodes;
 use csv::ByteRecord;
 use std::alloc::Global;
 use sw_query::Refusal;
@@ -53,20 +53,21 @@ impl At {
     }
 }
 
-/// Reads a field of texts: the code of its text, if that is not known, and adds the text where it is new.
-fn read_text_field(texts: &mut Texts, at: At, field: &[u8], known: u32) -> Result<i64, Refusal>
-    requires { MayHaveCode texts.old field.now known }
+/// Reads a field of texts: its code, where that was seen, or else that of its text, which is added where it is new.
+fn read_text_field(texts: &mut Texts, at: At, field: &[u8], seen: u32) -> Result<i64, Refusal>
+    requires { IsCodeOrZero texts.old field.now seen }
     ensures gives { GivesCell at.rec at.field texts.old (kind.Text []) field.now result }
     ensures learned { OnOk result (texts.new ≡ with_texts texts.old (text_field (kind.Text []) field.now)) }
     ensures no_text { is_text field.now ≡ false → result ≡ Err (Refusal.BadTable at.rec at.field) }
 {
-    if known != 0 {
-        return Ok(cell_of(u64::from(known)));
+    if seen != 0 {
+        return Ok(cell_of(u64::from(seen)));
     }
     let Some(text) = read_text(field) else {
         return Err(at.fault());
     };
-    match texts.add_unseen(text) {
+    // it may have come in the same group
+    match texts.add(text) {
         Ok(code) => Ok(cell_of(code)),
         Err(e) => Err(e),
     }
@@ -78,17 +79,17 @@ fn read_field(
     texts: &mut Texts,
     at: At,
     field: &[u8],
-    known: u32,
+    seen: u32,
 ) -> Result<i64, Refusal>
     requires places { HasPlaces kind }
-    requires known { MayHaveCode texts.old field.now known }
+    requires seen { IsCodeOrZero texts.old field.now seen }
     ensures gives { GivesCell at.rec at.field texts.old (domain [] kind) field.now result }
     ensures learned { OnOk result (texts.new ≡ with_texts texts.old (text_field (domain [] kind) field.now)) }
     ensures no_text { NoText (domain [] kind) field.now
         → OnErr result (result ≡ Err (Refusal.BadTable at.rec at.field)) }
 {
     if let Kind::Text = kind {
-        return read_text_field(texts, at, field, known);
+        return read_text_field(texts, at, field, seen);
     }
     match read_cell_bytes(kind, field) {
         Some(cell) => Ok(cell),
@@ -96,16 +97,16 @@ fn read_field(
     }
 }
 
-/// Reads the cells of record `rec`, of some of which codes are known, and adds its texts.
+/// Reads the cells of record `rec`, of some of which codes were seen, and adds its texts.
 fn read_cells(
     columns: &Columns,
     texts: &mut Texts,
     rec: u64,
     row: &ByteRecord,
-    known: &[u32; 8],
+    seen: &[u32; 8],
 ) -> Result<[i64; 8], Refusal>
     requires few { rec ≤ MOST_ROWS }
-    requires known { AreKnown texts.old (fields_of row.now) known.now }
+    requires seen { AreSeen texts.old (fields_of row.now) seen.now }
     ensures gives { GivesCells rec texts.old columns.now (fields_of row.now) result }
     ensures learned { OnOk result (texts.new ≡ with_fields texts.old columns.now (fields_of row.now)) }
     ensures within { IfOk result (λ cells. drop (length columns.now) cells ≡ drop (length columns.now) zeros) }
@@ -124,7 +125,7 @@ fn read_cells(
             texts,
             At { rec, field },
             row.field(attr),
-            known[attr],
+            seen[attr],
         ) {
             Ok(cell) => cells[attr] = cell,
             Err(e) => return Err(e),
@@ -144,7 +145,7 @@ pub(crate) fn no_rows(alloc: Global, columns: &Columns) -> NumberedRows
     NumberedRows::new(alloc, columns.len())
 }
 
-/// Adds the rows of a group, and their texts. After a refusal nothing is told of the rows.
+/// Adds the rows of a group, and their texts. After a refusal nothing is told of the rows or the texts.
 fn read_group(
     rows: &mut NumberedRows,
     columns: &Columns,
@@ -158,10 +159,10 @@ fn read_group(
     ensures width { OnOk result (rows.new.width ≡ rows.old.width) }
     ensures count { OnOk result (length rows.new.items ≡ length rows.old.items + length group.now) }
 {
-    let known = Known::of(columns, texts, group);
+    let seen = SeenCodes::of(columns, texts, group);
     for place in 0..group.len() {
         let key = rows.len() as u64 + 1;
-        match read_cells(columns, texts, key, group.row(place), known.at(place)) {
+        match read_cells(columns, texts, key, group.record(place), seen.at(place)) {
             Ok(cells) => {
                 if rows.push(&cells).is_err() {
                     return Err(Refusal::NoMemory);
@@ -173,7 +174,8 @@ fn read_group(
     Ok(())
 }
 
-/// Adds the rows that are left to none, and their texts.
+/// Adds the rows that are left to none, and their texts. Records are read up to sixteen ahead: where one finds no memory, `NoMemory` comes also in
+/// place of a fault before it.
 pub(crate) fn read_rows(
     alloc: Global,
     mut rows: NumberedRows,
@@ -225,7 +227,7 @@ fn read_under(
 }
 
 /// Reads the header and the rows that are left.
-fn read_records(
+fn read_nexts(
     alloc: Global,
     key: TextKey,
     records: &mut Records<'_>,
@@ -245,7 +247,7 @@ fn read_records(
     }
 }
 
-/// Reads the table that bytes spell, record by record.
+/// Reads the table that bytes spell, on one thread.
 pub(crate) fn read_whole(
     alloc: Global,
     key: TextKey,
@@ -255,7 +257,7 @@ pub(crate) fn read_whole(
     ensures width { IfOk result (λ t. t.1.width ≡ length t.0) }
 {
     let mut records = Records::of(alloc, bytes);
-    read_records(alloc, key, &mut records)
+    read_nexts(alloc, key, &mut records)
 }
 
 /// Reads a table one of whose records has a ninth field there. It is refused before that record is read whole.

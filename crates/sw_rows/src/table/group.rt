@@ -10,18 +10,18 @@ use csv::ByteRecord;
 use std::alloc::{AllocError, Global};
 use std::marker::Model;
 
-/// How many records are read together.
+/// How many records are read together: it divides `MOST_ROWS`.
 pub(crate) const TOGETHER: usize = 16;
 
 /// Makes a place behind the others, if there is none yet.
-fn make_place(rows: &mut Vec<ByteRecord>, at: usize) -> Result<(), AllocError>
-    requires { at ≤ length rows.old.items }
-    ensures within { OnOk result (at < length rows.new.items) }
-    ensures others { take at rows.new.items ≡ take at rows.old.items }
+fn make_place(places: &mut Vec<ByteRecord>, at: usize) -> Result<(), AllocError>
+    requires { at ≤ length places.old.items }
+    ensures within { OnOk result (at < length places.new.items) }
+    ensures others { take at places.new.items ≡ take at places.old.items }
 {
-    if at == rows.len() {
-        let alloc = *rows.allocator();
-        rows.push(ByteRecord::new(alloc))?;
+    if at == places.len() {
+        let alloc = *places.allocator();
+        places.push(ByteRecord::new(alloc))?;
     }
     Ok(())
 }
@@ -35,13 +35,13 @@ pub(crate) struct Group {
 
 impl Model for Group {
     ghost use Rattle.std.specs.Prelude.{◌≤◌, List, ℕ, length};
-    ghost use Rattle.sw_rows.specs.Groups.{AreFew, records_in};
+    ghost use Rattle.sw_rows.specs.Groups.{StandFirst, records_in};
 
     ghost Value = { List (List (List ℕ)) };
 
     ghost view = { λ b. records_in b.many b.places.items };
 
-    ghost invariant = { λ b. AreFew b.many b.places.items };
+    ghost invariant = { λ b. StandFirst b.many b.places.items };
 }
 
 impl Group {
@@ -66,7 +66,7 @@ impl Group {
 
     /// The record at a place.
     #[inline]
-    pub(crate) fn row(&self, place: usize) -> &ByteRecord
+    pub(crate) fn record(&self, place: usize) -> &ByteRecord
         requires { place < length self.now }
         ensures { fields_of result.now ≡ slice_index_or self.now place [] }
     {

@@ -1,7 +1,7 @@
 //! Rows as they are read.
 
-ghost use Rattle.std.specs.Prelude.{◌≡◌, ◌≤◌, ◌<◌, ◌^◌, ◌++◌, [], drop, length, take, OnErr, OnOk};
-ghost use Rattle.sw_rows.specs.Tables.{with_row};
+ghost use Rattle.std.specs.Prelude.{◌≡◌, ◌≤◌, ◌<◌, ◌^◌, ◌++◌, [], drop, length, OnErr, OnOk};
+ghost use Rattle.sw_rows.specs.Groups.{with_row};
 ghost use Rattle.sw_table.specs.Packed.{zeros};
 
 use std::alloc::{AllocError, Global};
@@ -21,7 +21,7 @@ fn push_cells(list: &mut Vec<i64>, cells: &[i64]) -> Result<(), AllocError>
     Ok(())
 }
 
-/// Rows with the keys 1, 2, 3 and so on, of which the cells alone are kept.
+/// Rows with the keys 1, 2, 3 and so on, while they are read: for one more it need not be asked whether cells are shared, or keys follow one another.
 #[derive(Drop)]
 pub(crate) struct NumberedRows {
     width: usize,
@@ -30,14 +30,14 @@ pub(crate) struct NumberedRows {
 }
 
 impl Model for NumberedRows {
-    ghost use Rattle.sw_rows.specs.Tables.{AreNumbered};
+    ghost use Rattle.sw_rows.specs.Groups.{AreWhole};
     ghost use Rattle.sw_table.specs.Packed.{Packed, numbered};
 
     ghost Value = { Packed };
 
     ghost view = { λ r. numbered r.width r.many r.cells.items };
 
-    ghost invariant = { λ r. AreNumbered r.width r.many r.cells.items };
+    ghost invariant = { λ r. AreWhole r.width r.many r.cells.items };
 }
 
 impl NumberedRows {

@@ -1,5 +1,5 @@
 use Rattle.std.proofs.Common.{◌≡◌, ◌+◌, ◌++◌, ℕ, List, drop, length}
-use Rattle.sw_rows.specs.Groups.{AreAllKnown}
+use Rattle.sw_rows.specs.Groups.{AreAllSeen}
 use Rattle.sw_rows.specs.Domains.{under}
 use Rattle.sw_rows.specs.Header.{kinds_of}
 use Rattle.sw_rows.specs.Tables.{rows_after, texts_in}
@@ -10,7 +10,7 @@ abbrev pub invariant-loop-place : goal.invariant-loop-place
 invariant-loop-place l = let ds = kinds_of l.columns in
     let seen = λ (more : List (List ℕ)). under (with_texts l.initial.texts (texts_in ds l.group ++ more)) ds in
     record {
-      known : AreAllKnown l.texts l.group l.known;
+      codes : AreAllSeen l.texts l.group l.seen;
       count : length l.rows.items ≡ length l.initial.rows.items + l.place;
       width : l.rows.width ≡ l.initial.rows.width;
       texts : with_texts l.texts (texts_in ds (drop l.place l.group)) ≡ with_texts l.initial.texts (texts_in ds l.group);

@@ -22,14 +22,14 @@ returns-in-Err-clause-gives c = λ more.
     let same = text_is (is_text c.args.field.now) t c.args.field.now c.in-Some.ensures.value in
     rw (← same) (text_fails c.args.texts.now t more c.in-Err.e c.args.at.rec c.args.at.field c.in-Some.ensures.text c.in-Err.ensures.code)
 
-pub returns-then-known-ne0-clause-gives : goal.returns-then-known-ne0-clause-gives
-returns-then-known-ne0-clause-gives c = λ more.
+pub returns-then-seen-ne0-clause-gives : goal.returns-then-seen-ne0-clause-gives
+returns-then-seen-ne0-clause-gives c = λ more.
     let ts = c.args.texts.now in
     let t = c.args.field.now in
-    let has = c.requires c.if-known-ne0.true in
+    let has = c.requires c.if-seen-ne0.true in
     let fits : FitsSigned w64 c.cell_of.result = search rules in
-    text_given ts t more c.args.known c.args.at.rec c.args.at.field has.sound (given_known ts c.args.known t has.coded)
+    text_given ts t more c.args.seen c.args.at.rec c.args.at.field has.sound (given_known ts c.args.seen t has.coded)
     ∙ ap (λ z. Ok z) (sym (c.cell_of.ensures ∙ ap pos c.from.ensures) ∙ sym (to_z-of_z w64 c.cell_of.result fits))
 
-pub returns-then-known-ne0-clause-learned : goal.returns-then-known-ne0-clause-learned
-returns-then-known-ne0-clause-learned c = let has = c.requires c.if-known-ne0.true in sym (field_known c.args.texts.now c.args.field.now c.args.known has.sound has.coded)
+pub returns-then-seen-ne0-clause-learned : goal.returns-then-seen-ne0-clause-learned
+returns-then-seen-ne0-clause-learned c = let has = c.requires c.if-seen-ne0.true in sym (field_known c.args.texts.now c.args.field.now c.args.seen has.sound has.coded)

@@ -1,8 +1,8 @@
--- What is known of the texts of records.
+-- Codes of texts of records.
 use Rattle.std.proofs.Common.{◌≡◌, ap, refl, ℕ, zero, suc, ◌⊎◌, inl, inr, List, [], ◌∷◌, get_or, replicate, set}
-use Rattle.sw_rows.specs.Groups.{AreAllKnown, AreKnown, HasCode, MayHaveCode}
+use Rattle.sw_rows.specs.Groups.{AreAllSeen, AreSeen, HasCode, IsCodeOrZero}
 use Rattle.sw_rows.specs.Texts.{with_texts}
-use Rattle.sw_rows.specs.declared.table.known.Known.{Known}
+use Rattle.sw_rows.specs.declared.table.seen.SeenCodes.{SeenCodes}
 use Rattle.sw_rows.proofs.Schemas.TextLaws.{code_kept}
 
 abbrev Texts : Type 0
@@ -32,31 +32,31 @@ set_or_was (x ∷ xs) (suc i) y (suc j) d = deeper (set_or_was xs i y j d)
     deeper (inr h) = inr h
 
 -- one more code of a record
-known_field : (ts : Texts) (fields : List (List ℕ)) (codes : List ℕ) (attr code : ℕ) → AreKnown ts fields codes → MayHaveCode ts (get_or fields attr []) code → AreKnown ts fields (set codes attr code)
-known_field ts fields codes attr code known has at = by_case (set_or_was codes attr code at 0)
+seen_field : (ts : Texts) (fields : List (List ℕ)) (codes : List ℕ) (attr code : ℕ) → AreSeen ts fields codes → IsCodeOrZero ts (get_or fields attr []) code → AreSeen ts fields (set codes attr code)
+seen_field ts fields codes attr code seen has at = by_case (set_or_was codes attr code at 0)
   where
-    by_case : ((at ≡ attr) × (get_or (set codes attr code) at 0 ≡ code)) ⊎ (get_or (set codes attr code) at 0 ≡ get_or codes at 0) → MayHaveCode ts (get_or fields at []) (get_or (set codes attr code) at 0)
+    by_case : ((at ≡ attr) × (get_or (set codes attr code) at 0 ≡ code)) ⊎ (get_or (set codes attr code) at 0 ≡ get_or codes at 0) → IsCodeOrZero ts (get_or fields at []) (get_or (set codes attr code) at 0)
     by_case (inl h) = rw (h.1, h.0) has
-    by_case (inr h) = rw h (known at)
+    by_case (inr h) = rw h (seen at)
 
 -- one more code of a record of a group
-pub known_set : (ts : Texts) (rows : List (List (List ℕ))) (codes : List (List ℕ)) (place attr code : ℕ) → ((p : ℕ) → AreKnown ts (get_or rows p []) (get_or codes p []))
-    → MayHaveCode ts (get_or (get_or rows place []) attr []) code → (p : ℕ) → AreKnown ts (get_or rows p []) (get_or (set codes place (set (get_or codes place []) attr code)) p [])
-known_set ts rows codes place attr code known has p = by_case (set_or_was codes place (set (get_or codes place []) attr code) p [])
+pub seen_set : (ts : Texts) (rows : List (List (List ℕ))) (codes : List (List ℕ)) (place attr code : ℕ) → ((p : ℕ) → AreSeen ts (get_or rows p []) (get_or codes p []))
+    → IsCodeOrZero ts (get_or (get_or rows place []) attr []) code → (p : ℕ) → AreSeen ts (get_or rows p []) (get_or (set codes place (set (get_or codes place []) attr code)) p [])
+seen_set ts rows codes place attr code seen has p = by_case (set_or_was codes place (set (get_or codes place []) attr code) p [])
   where
     by_case : ((p ≡ place) × (get_or (set codes place (set (get_or codes place []) attr code)) p [] ≡ set (get_or codes place []) attr code)) ⊎ (get_or (set codes place (set (get_or codes place []) attr code)) p [] ≡ get_or codes p [])
-        → AreKnown ts (get_or rows p []) (get_or (set codes place (set (get_or codes place []) attr code)) p [])
-    by_case (inl h) = rw (h.1, h.0) (known_field ts (get_or rows place []) (get_or codes place []) attr code (known place) has)
-    by_case (inr h) = rw h (known p)
+        → AreSeen ts (get_or rows p []) (get_or (set codes place (set (get_or codes place []) attr code)) p [])
+    by_case (inl h) = rw (h.1, h.0) (seen_field ts (get_or rows place []) (get_or codes place []) attr code (seen place) has)
+    by_case (inr h) = rw h (seen p)
 
 -- a code is kept where more texts are known
 pub has_kept : (ts more : Texts) (t : List ℕ) (code : ℕ) → HasCode ts t code → HasCode (with_texts ts more) t code
 has_kept ts more t code has = record { coded = code_kept ts more t code has.coded; sound = has.sound; few = has.few }
 
 -- the same of a record's codes
-pub fields_kept : (ts more : Texts) (fields : List (List ℕ)) (codes : List ℕ) → AreKnown ts fields codes → AreKnown (with_texts ts more) fields codes
-fields_kept ts more fields codes known attr ne = has_kept ts more (get_or fields attr []) (get_or codes attr 0) (known attr ne)
+pub fields_kept : (ts more : Texts) (fields : List (List ℕ)) (codes : List ℕ) → AreSeen ts fields codes → AreSeen (with_texts ts more) fields codes
+fields_kept ts more fields codes seen attr ne = has_kept ts more (get_or fields attr []) (get_or codes attr 0) (seen attr ne)
 
 -- and of a group's
-pub all_kept : (ts more : Texts) (rows : List (List (List ℕ))) (known : Known) → AreAllKnown ts rows known → AreAllKnown (with_texts ts more) rows known
-all_kept ts more rows known all place = fields_kept ts more (get_or rows place []) (get_or known.codes place []) (all place)
+pub all_kept : (ts more : Texts) (rows : List (List (List ℕ))) (seen : SeenCodes) → AreAllSeen ts rows seen → AreAllSeen (with_texts ts more) rows seen
+all_kept ts more rows seen all place = fields_kept ts more (get_or rows place []) (get_or seen.codes place []) (all place)

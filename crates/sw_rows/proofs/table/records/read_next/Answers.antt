@@ -1,7 +1,7 @@
 use Rattle.std.proofs.Common.{◌∙◌}
 use Rattle.sw_rows.proofs.Tables.RecordLemmas.{read_one}
-use Rattle.sw_rows.proofs.table.records.read_record.Goals as goal
-use Rattle.sw_rows.proofs.table.records.read_record.Goals.{in-Ok, in-Err}
+use Rattle.sw_rows.proofs.table.records.read_next.Goals as goal
+use Rattle.sw_rows.proofs.table.records.read_next.Goals.{in-Ok, in-Err}
 
 pub returns-clause-row : goal.returns-clause-row
 returns-clause-row c = elim c.match-read_byte_record.branch [
