@@ -20,13 +20,13 @@ pub(crate) struct SeenCodes {
 
 /// The code of the text of a record's field, where that is found among those that came lately, or 0.
 #[inline]
-fn seen_in(texts: &Texts, record: &ByteRecord, attr: usize) -> u32
-    ensures { IsCodeOrZero texts.now (get_or (fields_of record.now) attr []) result }
+fn seen_in(texts: &Texts, row: &ByteRecord, attr: usize) -> u32
+    ensures { IsCodeOrZero texts.now (get_or (fields_of row.now) attr []) result }
 {
-    if record.len() <= attr {
+    if row.len() <= attr {
         return 0;
     }
-    match texts.seen(record.field(attr)) {
+    match texts.seen(row.field(attr)) {
         Some(code) => code as u32,
         None => 0,
     }
