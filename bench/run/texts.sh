@@ -2,18 +2,20 @@
 # Times whole runs over a table with an attribute of TEXTS different texts and one of whole numbers, beside the same table with the texts' codes as
 # whole numbers in their place, by turns; medians of ROUNDS. The first script is one count, so that it times the load; the second has 20,000 counts of
 # one text each, of which the time of the first is taken off. Texts are of 4 to 8 bytes, and then of 16. The load is also timed of codes with so many
-# zeros before them that they have a text's bytes: what is left above that is what texts cost but for their length.
-# Usage: bench/run/texts.sh [ROWS [ROUNDS [TEXTS]]]
+# zeros before them that they have a text's bytes: what is left above that is what texts cost but for their length. Each text comes RUN times in
+# a row (1).
+# Usage: bench/run/texts.sh [ROWS [ROUNDS [TEXTS [RUN]]]]
 set -euo pipefail
 . "$(dirname "$0")/../program.sh"
 rows=${1:-1000000}
 rounds=${2:-9}
 texts=${3:-10000}
+run=${4:-1}
 for bytes in 4-8 16; do
-  PYTHONPATH=$top/bench PYTHONDONTWRITEBYTECODE=1 python3 - "$program" "$work" "$rows" "$rounds" "$texts" "$bytes" <<'PY'
+  PYTHONPATH=$top/bench PYTHONDONTWRITEBYTECODE=1 python3 - "$program" "$work" "$rows" "$rounds" "$texts" "$bytes" "$run" <<'PY'
 import random, statistics, sys
 from timed import timed
-program, work, rows, rounds, many, lengths = sys.argv[1], sys.argv[2], int(sys.argv[3]), int(sys.argv[4]), int(sys.argv[5]), sys.argv[6]
+program, work, rows, rounds, many, lengths, run = sys.argv[1], sys.argv[2], int(sys.argv[3]), int(sys.argv[4]), int(sys.argv[5]), sys.argv[6], int(sys.argv[7])
 R = random.Random(7)
 least, most = (int(n) for n in (lengths.split("-") * 2)[:2])
 names = set()
@@ -23,8 +25,8 @@ names = sorted(names)
 codes = {}
 with open(work + "/text.csv", "w") as texts, open(work + "/code.csv", "w") as numbers, open(work + "/wide.csv", "w") as wide:
     texts.write("city:text,n:int\n"); numbers.write("city:int,n:int\n"); wide.write("city:int,n:int\n")
-    for _ in range(rows):
-        name, n = R.choice(names), R.randrange(1 << 30)
+    for row in range(rows):
+        name, n = name if row % run else R.choice(names), R.randrange(1 << 30)
         code = str(codes.setdefault(name, len(codes) + 1))
         texts.write(f"{name},{n}\n"); numbers.write(f"{code},{n}\n"); wide.write(f"{code.zfill(len(name))},{n}\n")
 asked = [R.choice(list(codes)) for _ in range(20000)]

@@ -63,11 +63,14 @@ fn read_text_field(texts: &mut Texts, at: At, field: &[u8], seen: u32) -> Result
     if seen != 0 {
         return Ok(cell_of(u64::from(seen)));
     }
+    // it may have come in the same group
+    if let Some(code) = texts.seen(field) {
+        return Ok(cell_of(code));
+    }
     let Some(text) = read_text(field) else {
         return Err(at.fault());
     };
-    // it may have come in the same group
-    match texts.add(text) {
+    match texts.add_unseen(text) {
         Ok(code) => Ok(cell_of(code)),
         Err(e) => Err(e),
     }
@@ -227,7 +230,7 @@ fn read_under(
 }
 
 /// Reads the header and the rows that are left.
-fn read_nexts(
+fn read_records(
     alloc: Global,
     key: TextKey,
     records: &mut Records<'_>,
@@ -257,7 +260,7 @@ pub(crate) fn read_whole(
     ensures width { IfOk result (λ t. t.1.width ≡ length t.0) }
 {
     let mut records = Records::of(alloc, bytes);
-    read_nexts(alloc, key, &mut records)
+    read_records(alloc, key, &mut records)
 }
 
 /// Reads a table one of whose records has a ninth field there. It is refused before that record is read whole.

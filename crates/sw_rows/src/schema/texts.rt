@@ -171,7 +171,7 @@ impl Texts {
     }
 
     /// The same, for a text that `seen` does not find.
-    fn add_unseen(&mut self, text: &str) -> Result<u64, Refusal>
+    pub(crate) fn add_unseen(&mut self, text: &str) -> Result<u64, Refusal>
         requires { is_text text.now ≡ true }
         ensures { Adds self.old text.now self.new result }
     {
