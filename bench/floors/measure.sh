@@ -97,7 +97,8 @@ for bytes in "120 176 1000000" "120 176 8192" "24 48 8192"; do
   "$work/floors" entries 1000000 "$call" "$entry" "$given"
 done
 [ "$(nproc)" -ge 4 ] || exit 0
-for words in 0 3 5; do
-  "$work/floors" lock 1 100000 176 1000 "$words"
-  "$work/floors" lock 4 100000 176 1000 "$words"
+for given in "0 1" "3 1" "5 1" "2 16" "2 16 new"; do
+  read -ra words <<< "$given"
+  "$work/floors" lock 1 100000 176 300 "${words[@]}"
+  "$work/floors" lock 4 100000 176 300 "${words[@]}"
 done

@@ -18,3 +18,4 @@ pub mod TextCalls
 pub mod TextReplies
 pub mod Turned
 pub mod Waiting
+pub mod Together

@@ -1,5 +1,5 @@
 -- What goes out of a text through a block of bytes, and which sessions were answered what.
-use Rattle.std.specs.Prelude.{◌≡◌, ◌<◌, ◌≤◌, ◌+◌, ◌∷◌, ℕ, List, [], length, slice_index_or, All, Option, Result, OnOk, IfErr, IfOk}
+use Rattle.std.specs.Prelude.{◌≡◌, ◌⊎◌, ◌<◌, ◌≤◌, ◌+◌, ◌∷◌, ℕ, List, [], length, slice_index_or, All, Option, Result, OnOk, IfErr, IfOk}
 use Rattle.sw_rows.specs.Gives.{Raised}
 use Rattle.sw_query.specs.declared.query.Call.{Call}
 use Rattle.sw_query.specs.declared.refusal.Refusal.{Refusal}
@@ -26,12 +26,28 @@ Each {X} {Y} P xs ys =
     (length ys ≡ length xs)
     × ((i : ℕ) (x : X) (y : Y) → i < length xs → P (slice_index_or xs i x) (slice_index_or ys i y))
 
--- a session that has made no call, and the calls that it is to make, with room for what comes of them
-pub record IsFresh (session : Shown) (told : List Told) (room : ℕ) (calls : List Call) : Type 0 where
-  pub none : session.1 ≡ []
-  pub own : own_of session ≡ []
-  pub empty : told ≡ []
-  pub fits : length calls ≤ room
+-- a session, the calls that it is to make, and what came of the first of them
+pub record Making : Type 0 where
+  pub session : Shown
+  pub calls : List Call
+  pub told : List Told
+
+-- the session made the first of the calls, as many as something came of: those that were answered are its own, it has the
+-- entries that they left, and the others say why
+pub record HasMade (session : Shown) (calls : List Call) (told : List Told) : Type 0 where
+  pub few : length told ≤ length calls
+  pub made : session.1 ≡ answered (outcomes_of calls told)
+  pub left : AllLeft (outcomes_of calls told) (own_of session)
+  pub why : All SaysWhy told
+
+-- the session is of the same number, and is to make the same calls
+abbrev pub IsSameJob : Making → Making → Type 0
+IsSameJob old new = (new.session.0 ≡ old.session.0) × (new.calls ≡ old.calls)
+
+-- more calls came to something, unless all had
+abbrev pub GoesOn : Making → Making → Type 0
+GoesOn old new =
+    (length old.told < length new.told) ⊎ ((length old.told ≡ length old.calls) × (new.told ≡ old.told))
 
 -- the session of this number made these calls: something came of each, those that were answered are its ticket's, which
 -- has the entries that they left, and the others say why

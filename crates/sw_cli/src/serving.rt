@@ -1,21 +1,22 @@
 //! Blocks of calls, each made in a thread of its own.
 
-ghost use Rattle.std.specs.Prelude.{◌≡◌, ◌≤◌, ◌+◌, length, map, All, IfOk, IsOkUnless, vec_capacity, vec_len};
+ghost use Rattle.std.specs.Prelude.{◌≡◌, ◌≤◌, ◌<◌, ◌+◌, ◌++◌, length, map, IfOk, IsOkUnless, MatchBool, Ok, vec_capacity, vec_len};
 ghost use Rattle.sw_query.specs.declared.refusal.Refusal.TheVariants.{NoMemory};
 ghost use Rattle.sw_engine.specs.Desk.{AreCounted, InOrder};
 ghost use Rattle.sw_cli.specs.Outcomes.{AllSayWhy, AreTold, blocks_told};
 ghost use Rattle.sw_cli.specs.Run.{IsRecordOf};
-ghost use Rattle.sw_cli.specs.Script.{AllCallsBelow, AreBlocks};
-ghost use Rattle.sw_cli.specs.Served.{Each, IsDone, IsFresh};
+ghost use Rattle.sw_cli.specs.Script.{AreBlocks};
+ghost use Rattle.sw_cli.specs.Served.{Each, GoesOn, IsDone, IsSameJob};
 
 use crate::looking_on::Onlooker;
 use crate::script::Block;
 use crate::telling::BlockTold;
 use std::alloc::{AllocError, Global};
+use std::marker::Model;
 use std::sync::Wait;
 use std::thread;
 use std::thread::Threads;
-use sw_engine::{Engine, HeadStats, Latch, LatchedHead, Naming, Session, Ticket};
+use sw_engine::{Engine, HeadStats, Latch, LatchedHead, Naming, Session, TOGETHER, Ticket};
 use sw_map::CrackerMap;
 use sw_rows::{Call, Refusal, Reply};
 use sw_spine::Record;
@@ -28,14 +29,27 @@ pub(crate) struct Opened<J: Naming, M: CrackerMap, L: Latch<LatchedHead<J, M>>> 
     pub(crate) tickets: Vec<Ticket<J>>,
 }
 
-/// A session that has made no call, its block's number from 1 for who looks on, the calls that it is to make, and room for
-/// what comes of them.
+/// A session, its block's number from 1 for who looks on, the calls that it is to make, and what came of the first of them, with
+/// room for the others. Contracts see the session, the calls, and what came of them.
 #[derive(Drop)]
 pub(crate) struct Job<'e, J: Naming, M: CrackerMap, L: Latch<LatchedHead<J, M>>> {
     session: Session<'e, J, M, L>,
     block: u64,
     calls: &'e [Call],
     told: Vec<Result<Reply, Refusal>>,
+}
+
+impl<'e, J: Naming, M: CrackerMap, L: Latch<LatchedHead<J, M>>> Model for Job<'e, J, M, L> {
+    ghost use Rattle.std.specs.Prelude.{◌≤◌, length, vec_capacity};
+    ghost use Rattle.sw_cli.specs.Script.{AllCallsBelow};
+    ghost use Rattle.sw_cli.specs.Served.{HasMade, Making};
+
+    ghost Value = { Making };
+
+    ghost view = { λ j. record { session = j.session; calls = j.calls.now; told = j.told.items } };
+
+    ghost invariant = { λ j. HasMade j.session j.calls.now j.told.items × (length j.calls.now ≤ vec_capacity j.told)
+        × AllCallsBelow (length J.columns) j.calls.now };
 }
 
 /// The session's ticket, and what came of each of its calls.
@@ -45,7 +59,99 @@ pub(crate) struct Done<J: Naming> {
     told: BlockTold,
 }
 
-/// Makes the calls of a job, one after another.
+/// Of which block calls are, and when they began, as who looks on told it.
+#[derive(Clone, Copy)]
+struct Since {
+    block: u64,
+    begun: u64,
+}
+
+/// The next of these calls were answered these replies together. Who looks on is told.
+fn add_replies<O: Onlooker>(
+    onlooker: &O,
+    since: Since,
+    calls: &[Call],
+    told: &mut Vec<Result<Reply, Refusal>>,
+    replies: Vec<Reply>,
+)
+    requires few { length told.old.items + length replies.items ≤ length calls.now }
+    requires room { length calls.now ≤ vec_capacity told.old }
+    ensures added { told.new.items ≡ told.old.items ++ map (λ r. Ok r) replies.items }
+    ensures room { vec_capacity told.new ≡ vec_capacity told.old }
+{
+    for reply in replies {
+        let call = &calls[told.len()];
+        let answer = Ok(reply);
+        onlooker.ended(since.block, call, since.begun, &answer);
+        told.push_reserved(answer);
+    }
+}
+
+impl<'e, J: Naming, M: CrackerMap, L: Latch<LatchedHead<J, M>>> Job<'e, J, M, L> {
+    /// Makes the next call, and tells who looks on.
+    fn make_one<O: Onlooker, R: Threads + Wait + Sync>(&mut self, rt: &R, onlooker: &O)
+        requires left { length self.old.told < length self.old.calls }
+        ensures same { IsSameJob self.old self.new }
+        ensures more { length self.old.told < length self.new.told }
+    {
+        let Job {
+            session,
+            block,
+            calls,
+            told,
+        } = self;
+        let call = &calls[told.len()];
+        let begun = onlooker.begins(call);
+        let answer = session.call(rt, call);
+        onlooker.ended(*block, call, begun, &answer);
+        told.push_reserved(answer);
+    }
+
+    /// Makes the next calls as far as they are answered together, and tells whether any is. Who looks on is told that the first of them
+    /// begins, and that each has ended.
+    fn make_together<O: Onlooker, R: Wait>(&mut self, rt: &R, onlooker: &O) -> bool
+        requires left { length self.old.told < length self.old.calls }
+        ensures same { IsSameJob self.old self.new }
+        ensures more { MatchBool result
+            (length self.old.told < length self.new.told) (self.new.told ≡ self.old.told) }
+    {
+        let Job {
+            session,
+            block,
+            calls,
+            told,
+        } = self;
+        let since = Since {
+            block: *block,
+            begun: onlooker.begins(&calls[told.len()]),
+        };
+        let replies = session.select_together(rt, &calls[told.len()..]);
+        let some = !replies.is_empty();
+        add_replies(onlooker, since, calls, told, replies);
+        some
+    }
+
+    /// Makes the next calls, where any are left: those that are answered together, or else one. Of each `TOGETHER` calls of a block
+    /// the first is tried so, and those behind one that is made by itself are made by themselves: a head that is not ready as it stands
+    /// is mostly not ready for the next one either, and to ask it in vain costs time.
+    fn make_next<O: Onlooker, R: Threads + Wait + Sync>(&mut self, rt: &R, onlooker: &O)
+        ensures same { IsSameJob self.old self.new }
+        ensures more { GoesOn self.old self.new }
+    {
+        let made = self.told.len();
+        if made == self.calls.len() {
+            return;
+        }
+        if made % TOGETHER == 0 && !onlooker.is_timing() {
+            if self.make_together(rt, onlooker) {
+                return;
+            }
+        }
+        self.make_one(rt, onlooker);
+    }
+}
+
+/// Makes the calls of a job.
 fn make_block<
     J: Naming,
     M: CrackerMap,
@@ -53,22 +159,13 @@ fn make_block<
     O: Onlooker,
     R: Threads + Wait + Sync,
 >(rt: &R, job: Job<'_, J, M, L>, onlooker: &O) -> Done<J>
-    requires fresh { IsFresh job.session job.told.items (vec_capacity job.told) job.calls.now }
-    requires below { AllCallsBelow (length J.columns) job.calls.now }
-    ensures { IsDone job.entry.session.0 job.entry.calls.now result.ticket result.told }
+    ensures { IsDone job.entry.session.0 job.entry.calls result.ticket result.told }
 {
-    let Job {
-        mut session,
-        block,
-        calls,
-        mut told,
-    } = job;
-    for call in calls {
-        let begun = onlooker.begins(call);
-        let answer = session.call(rt, call);
-        onlooker.ended(block, call, begun, &answer);
-        told.push_reserved(answer);
+    let mut job = job;
+    for _turn in 0..job.calls.len() {
+        job.make_next(rt, onlooker);
     }
+    let Job { session, told, .. } = job;
     Done {
         ticket: session.end(),
         told: BlockTold { told },
@@ -84,10 +181,9 @@ fn jobs<'e, J: Naming, M: CrackerMap, L: Latch<LatchedHead<J, M>>>(
 ) -> Result<Vec<Job<'e, J, M, L>>, AllocError>
     requires order { InOrder 1 tickets.items }
     requires many { length tickets.items ≡ length blocks.now }
-    ensures fresh { IfOk result
-        (λ v. All (λ j. IsFresh j.session j.told.items (vec_capacity j.told) j.calls.now) v.items) }
+    requires blocks { AreBlocks (length J.columns) blocks.now }
     ensures numbers { IfOk result (λ v. AreCounted 1 (map (λ j. j.session.0) v.items)) }
-    ensures calls { IfOk result (λ v. map (λ j. j.calls.now) v.items ≡ blocks.now) }
+    ensures calls { IfOk result (λ v. map (λ j. j.calls) v.items ≡ blocks.now) }
 {
     let mut jobs = Vec::new(alloc);
     for ticket in tickets {
@@ -113,17 +209,13 @@ fn make_at_once<
     O: Onlooker,
     R: Threads + Wait + Sync,
 >(rt: &R, jobs: Vec<Job<'e, J, M, L>>, onlooker: &O) -> Result<Vec<Done<J>>, AllocError>
-    requires fresh { All (λ j. IsFresh j.session j.told.items (vec_capacity j.told) j.calls.now) jobs.items }
-    requires below { All (λ j. AllCallsBelow (length J.columns) j.calls.now) jobs.items }
-    ensures { IfOk result (λ v. Each (λ j d. IsDone j.session.0 j.calls.now d.ticket d.told) jobs.entry.items v.items) }
+    ensures { IfOk result (λ v. Each (λ j d. IsDone j.session.0 j.calls d.ticket d.told) jobs.entry.items v.items) }
 {
     thread::map_vec(
         rt,
         jobs,
         &|job: Job<'_, J, M, L>| -> Done<J>
-            requires fresh { IsFresh job.session job.told.items (vec_capacity job.told) job.calls.now }
-            requires below { AllCallsBelow (length J.columns) job.calls.now }
-            ensures { IsDone job.entry.session.0 job.entry.calls.now result.ticket result.told }
+            ensures { IsDone job.entry.session.0 job.entry.calls result.ticket result.told }
         { make_block(rt, job, onlooker) },
     )
 }

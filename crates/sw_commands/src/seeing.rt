@@ -96,6 +96,11 @@ impl<'r, R: Clock + Eprint> Seen<'r, R> {
         self.rt
     }
 
+    /// Whether it is asked how long each call takes.
+    pub fn is_timing(&self) -> bool {
+        self.sights.heads || self.sights.calls
+    }
+
     /// The nanoseconds since the run began; none where nobody asks for them or the clock cannot be read.
     pub fn time(&self) -> Option<u64> {
         match self.began?.elapsed(self.rt) {

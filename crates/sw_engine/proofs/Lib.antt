@@ -13,3 +13,4 @@ pub mod Closing
 pub mod Visits
 pub mod Called
 pub mod AtRest
+pub mod Together

@@ -1,5 +1,5 @@
 -- A session's own entries, and what a visit makes of them. The entries of others come and go between its visits.
-use Rattle.std.specs.Prelude.{ℕ, ◌≡◌, ◌⊎◌, ◌+◌, ◌++◌, ◌==◌, if◌then◌else◌, true, List, [], ◌∷◌, drop, slice_get, Option, None, Some, MatchResult, Result}
+use Rattle.std.specs.Prelude.{ℕ, ◌≡◌, ◌⊎◌, ◌+◌, ◌++◌, ◌==◌, if◌then◌else◌, true, List, [], ◌∷◌, drop, map, slice_get, Option, None, Some, MatchResult, Result}
 use Rattle.sw_query.specs.declared.query.Query.{Query}
 use Rattle.sw_query.specs.declared.query.Call.{Call}
 use Rattle.sw_query.specs.declared.query.Call.TheVariants as call
@@ -50,6 +50,10 @@ LeavesCall (call.Select q) told old new = LeavesSelect q told old new
 LeavesCall (call.Insert cells) told old new = LeavesCommit (call.Insert cells) told old new
 LeavesCall (call.Delete key) told old new = LeavesCommit (call.Delete key) told old new
 LeavesCall (call.DeleteWhere conds) told old new = LeavesCommit (call.DeleteWhere conds) told old new
+
+-- calls that are answered leave an answered entry each
+abbrev pub LeavesAnswered : List (Call × Reply) → Shown → Shown → Type 0
+LeavesAnswered made old new = own_of new ≡ own_of old ++ map (λ m. (m.0, state.Answered m.1)) made
 
 -- ---- where a session begins and ends
 

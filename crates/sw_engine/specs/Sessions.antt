@@ -1,5 +1,5 @@
 -- A session's state, and what a visit does to it: a call is answered, or given up, or nothing of the session's changes.
-use Rattle.std.specs.Prelude.{ℕ, ◌≡◌, ◌⊎◌, ◌+◌, ◌++◌, List, [], ◌∷◌, Bool, MatchBool, Option, Some, None, IfSome}
+use Rattle.std.specs.Prelude.{ℕ, ◌≡◌, ◌⊎◌, ◌+◌, ◌++◌, List, [], ◌∷◌, Option, Some, None, IfSome}
 use mathlib.Core.List.{IsPrefix}
 use Rattle.sw_table.specs.declared.row.Row.{Row}
 use Rattle.sw_table.specs.declared.row.Update.{Update}
@@ -17,7 +17,7 @@ use Rattle.sw_tie.specs.declared.Share.{Share}
 use Rattle.sw_versions.specs.Rules.{updates_in}
 use Rattle.sw_engine.specs.Desk.{RefusesCall, TellsFull}
 use Rattle.sw_engine.specs.Later.{Begin}
-use Rattle.sw_engine.specs.Own.{own_of, own_settled}
+use Rattle.sw_engine.specs.Own.{LeavesAnswered, own_of, own_settled}
 use Rattle.sw_engine.specs.Published.{IsOneMore, IsWhole, Shown, published_of, session_shown}
 
 -- ---- a session's state
@@ -67,18 +67,22 @@ pub record Answers (c : Call) (r : Reply) (old new : Shown) : Type 0 where
   pub calls : new.1 ≡ old.1 ++ (c, r) ∷ []
   pub own : own_of new ≡ own_of old ++ (c, state.Answered r) ∷ []
 
--- the query is answered, where that is told; else nothing that the session shows changes
-abbrev pub AnswersOr : Query → Reply → Shown → Shown → Bool → Type 0
-AnswersOr q r old new told = MatchBool told (Answers (call.Select q) r old new) (new ≡ old)
-
--- and it stands answered at the end of the history, where that is told; else the history is as it was
-abbrev pub StandsOr : ℕ → Query → Books → Books → Bool → Type 0
-StandsOr session q old new told = MatchBool told (new ≡ with_answered session (call.Select q) old) (new ≡ old)
-
 -- the query is answered, where there is a reply; else nothing that the session shows changes
 abbrev pub AnswersIfSome : Query → Shown → Shown → Option Reply → Type 0
 AnswersIfSome q old new None = new ≡ old
 AnswersIfSome q old new (Some r) = Answers (call.Select q) r old new
+
+-- and it stands answered at the end of the history, where there is a reply; else the history is as it was
+abbrev pub StandsIfSome : ℕ → Query → Books → Books → Option Reply → Type 0
+StandsIfSome session q old new None = new ≡ old
+StandsIfSome session q old new (Some r) = new ≡ with_answered session (call.Select q) old
+
+-- calls are answered, one after another: they are the last of the session's answered calls, and their entries the last of
+-- its own
+pub record AnswersAll (made : List (Call × Reply)) (old new : Shown) : Type 0 where
+  pub visited : Visited old new
+  pub calls : new.1 ≡ old.1 ++ made
+  pub own : LeavesAnswered made old new
 
 -- the select is void: its entry is the last of the session's own, and the answered calls stay
 pub record Voids (q : Query) (old new : Shown) : Type 0 where

@@ -1,6 +1,7 @@
 //! Heads under their latches, the history under its lock, and the sessions.
 
-ghost use Rattle.std.specs.Prelude.{◌≡◌, ◌<◌, ◌≤◌, ◌+◌, ◌++◌, ◌∷◌, [], ℕ, true, length, map, vec_len, All, IfErr, IfOk, IsOk, IsOkUnless, MatchResult, OnErr, OnOk, false};
+ghost use Rattle.std.specs.List.{zip};
+ghost use Rattle.std.specs.Prelude.{◌≡◌, ◌<◌, ◌≤◌, ◌+◌, ◌++◌, ◌∷◌, [], ℕ, true, length, map, take, vec_len, All, IfErr, IfOk, IfSome, IsOk, IsOkUnless, MatchResult, OnErr, OnOk, false};
 ghost use Rattle.sw_query.specs.declared.query.Call.TheVariants.{Select, Insert, Delete, DeleteWhere};
 ghost use Rattle.sw_query.specs.declared.refusal.Refusal.TheVariants.{NoMemory};
 ghost use Rattle.sw_rows.specs.declared.table.TheConstants.{MOST_ROWS};
@@ -16,14 +17,14 @@ ghost use Rattle.sw_versions.specs.Refused.{IsAhead};
 ghost use Rattle.sw_versions.specs.Rules.{updates_in};
 ghost use Rattle.sw_engine.specs.Published.{CallGives, CountsMisses, EndWithEntries, GivesReceipt, HaveAll, IsOfFirst, RefusesViewing, TellsAll, answered_to};
 ghost use Rattle.sw_engine.specs.Headline.{IsHistoryOfOneThread};
-ghost use Rattle.sw_engine.specs.declared.engine.TheConstants.{PART};
+ghost use Rattle.sw_engine.specs.declared.engine.TheConstants.{PART, TOGETHER};
 ghost use Rattle.sw_engine.specs.Later.{Begin};
-ghost use Rattle.sw_engine.specs.Own.{IsEnded, IsLastOwn, IsNew, LeavesCall, LeavesCommit, LeavesSelect, own_of};
-ghost use Rattle.sw_engine.specs.Sessions.{Answers, AnswersIfSome, GivesUp, IsRefused, Refuses, Stays};
+ghost use Rattle.sw_engine.specs.Own.{IsEnded, IsLastOwn, IsNew, LeavesAnswered, LeavesCall, LeavesCommit, LeavesSelect, own_of};
+ghost use Rattle.sw_engine.specs.Sessions.{Answers, AnswersAll, AnswersIfSome, GivesUp, IsRefused, Refuses, Stays};
 
 use crate::conds::add_all;
 use crate::heads::counting::HeadStats;
-use crate::heads::latch::{LatchedHead, head_of};
+use crate::heads::latch::{AtRest, LatchedHead, head_of};
 use crate::heads::latching::{AloneLatch, Latch};
 use crate::heads::opening::{Ground, Opening};
 use crate::history::desk::{Blank, Desk};
@@ -35,16 +36,33 @@ use crossbeam_utils::{Backoff, CachePadded};
 use std::alloc::{AllocError, Global};
 use std::marker::{Model, PhantomData};
 use std::sync::atomic::{AtomicU64, Ordering};
-use std::sync::{Mutex, MutexGuard, Wait};
+use std::sync::{Mutex, MutexGuard, RwLockReadGuard, Wait};
 use std::thread::Threads;
 use sw_lang::Cuts;
 use sw_map::CrackerMap;
-use sw_rows::{Call, Cond, Conds, PackedRows, Query, Refusal, Reply, Schema};
+use sw_rows::{Call, Cond, Conds, PackedRows, Query, Refusal, Reply, Schema, Want};
 use sw_spine::Record;
 use sw_versions::{Draft, Naming};
 
 /// How many updates a head, or what is made for viewers, takes in a visit at most.
 const PART: usize = 1024;
+
+/// How many calls are answered together at most. By then what a visit of the lock costs is a small part of them. Who wants the head
+/// alone waits for as many.
+pub const TOGETHER: usize = 16;
+
+/// What a call asks, if it is a select that lists no rows.
+fn short_query(call: &Call) -> Option<&Query>
+    ensures { IfSome result (λ q. call.now ≡ Select q.now) }
+{
+    match call {
+        Call::Select(query) => match query.want {
+            Want::Rows(_) => None,
+            _ => Some(query),
+        },
+        _ => None,
+    }
+}
 
 /// What lies under the lock. Others mostly hold it for less time than a sleep takes, so the thread looks at it many times between
 /// pauses before it sleeps.
@@ -430,6 +448,22 @@ impl<J: Naming, M: CrackerMap, L: Latch<LatchedHead<J, M>>> Engine<J, M, L> {
         unreachable!()
     }
 
+    /// The head that a query asks, shared, where it may be worth to ask it as it stands. None where others have it alone for long.
+    fn share<R: Wait>(
+        &self,
+        rt: &R,
+        query: &Query,
+    ) -> Option<RwLockReadGuard<'_, LatchedHead<J, M>>>
+        requires { CallsBelow (length J.columns) (Select query.now) }
+    {
+        let head = self.latches[head_of(query)].share(rt)?;
+        if head.may_have(self.came.load(Ordering::SeqCst)) {
+            Some(head)
+        } else {
+            None
+        }
+    }
+
     /// Answers a query from a head that is shared, where it is ready as it stands and lacks no update. None where it is not, or
     /// others have the head alone for long, and then nothing is left of the call.
     fn select_at_rest<R: Wait>(
@@ -442,25 +476,81 @@ impl<J: Naming, M: CrackerMap, L: Latch<LatchedHead<J, M>>> Engine<J, M, L> {
         ensures answers { IfOk result (AnswersIfSome query.now ticket.old ticket.new) }
         ensures refused { IfErr result (IsRefused ticket.old ticket.new) }
     {
-        let Some(head) = self.latches[head_of(query)].share(rt) else {
+        let Some(head) = self.share(rt, query) else {
             return Ok(None);
         };
-        if !head.may_have(self.came.load(Ordering::SeqCst)) {
-            return Ok(None);
-        }
-        let Some((reply, told)) = head.answer_at_rest(self.alloc, query) else {
+        let Some(told) = head.answer_at_rest(self.alloc, query) else {
             return Ok(None);
         };
         // the lock is let go before the head's own count
         let stood = self.visit(rt).answer(ticket, told);
-        match stood {
-            Ok(true) => {
-                head.count_at_rest();
-                Ok(Some(reply))
-            }
-            Ok(false) => Ok(None),
-            Err(refusal) => Err(refusal),
+        if let Ok(Some(_)) = &stood {
+            head.count_at_rest(1);
         }
+        stood
+    }
+
+    /// What a head answers as it stands of the first of these calls: up to the first that is no select of that head, or lists rows, or
+    /// that the head is not ready for; and no more than `TOGETHER`. Nothing where updates came meanwhile.
+    fn ask_all(&self, head: &LatchedHead<J, M>, calls: &[Call]) -> Vec<AtRest<J>>
+        requires { All (CallsBelow (length J.columns)) calls.now }
+        ensures few { length result.items ≤ length calls.now }
+        ensures most { length result.items ≤ TOGETHER }
+        ensures asked { map (λ t. Select t.asked) result.items ≡ take (length result.items) calls.now }
+    {
+        let mut told = Vec::new(self.alloc);
+        if told.reserve(TOGETHER).is_err() {
+            return told;
+        }
+        for call in calls {
+            let Some(query) = short_query(call) else {
+                return told;
+            };
+            if told.len() == TOGETHER {
+                return told;
+            }
+            if !head.may_have(self.came.load(Ordering::SeqCst)) {
+                return Vec::new(self.alloc);
+            }
+            let Some(one) = head.answer_at_rest(self.alloc, query) else {
+                return told;
+            };
+            told.push_reserved(one);
+        }
+        told
+    }
+
+    /// Answers the first of these calls from a head that is shared, as far as it is ready for them as it stands and lacks no update,
+    /// and they stand in the history by one visit.
+    fn select_together<R: Wait>(&self, rt: &R, ticket: &mut Ticket<J>, calls: &[Call]) -> Vec<Reply>
+        requires { All (CallsBelow (length J.columns)) calls.now }
+        ensures few { length result.items ≤ length calls.now }
+        ensures most { length result.items ≤ TOGETHER }
+        ensures selects { All (λ c. is_select c ≡ true) (take (length result.items) calls.now) }
+        ensures answers { AnswersAll (zip calls.now result.items) ticket.old ticket.new }
+    {
+        let mut replies = Vec::new(self.alloc);
+        let Some(call) = calls.first() else {
+            return replies;
+        };
+        let Some(query) = short_query(call) else {
+            return replies;
+        };
+        let Some(head) = self.share(rt, query) else {
+            return replies;
+        };
+        let told = self.ask_all(&head, calls);
+        if told.is_empty() {
+            return replies;
+        }
+        if replies.reserve(told.len()).is_err() {
+            return replies;
+        }
+        self.visit(rt).answer_all(ticket, told, &mut replies);
+        if !replies.is_empty() {
+            head.count_at_rest(replies.len());
+        }
+        replies
     }
 
     /// Answers a query from the head as it stands, if that may be, and else with the head for it alone.
@@ -583,6 +673,27 @@ impl<'e, J: Naming, M: CrackerMap, L: Latch<LatchedHead<J, M>>> Session<'e, J, M
         ensures full { IfErr result (TellsFull self.new.2.entries) }
     {
         self.engine.select(rt, &mut self.ticket, query)
+    }
+
+    /// Answers the first of these calls together, as far as they are selects that list no rows and ask one head, which answers them as
+    /// it stands, and `TOGETHER` of them at most: they stand in the history one behind the other, by one visit. The replies come in
+    /// order; a call without one was not made, and `call` makes it. It is never refused: where there is no memory, or no room in
+    /// the history, it answers fewer, or none.
+    ///
+    /// The caller's condition is that of `call`, for each.
+    pub fn select_together<R: Wait>(&mut self, rt: &R, calls: &[Call]) -> Vec<Reply>
+        requires { All (CallsBelow (length J.columns)) calls.now }
+        ensures number { self.new.0 ≡ self.old.0 }
+        ensures few { length result.items ≤ length calls.now }
+        ensures most { length result.items ≤ TOGETHER }
+        ensures selects { All (λ c. is_select c ≡ true) (take (length result.items) calls.now) }
+        ensures mine { self.new.1 ≡ self.old.1 ++ zip calls.now result.items }
+        ensures own { LeavesAnswered (zip calls.now result.items) self.old self.new }
+        ensures grows { Begin self.old.2.entries self.new.2.entries }
+        ensures receipt { self.new.2.given ≡ self.old.2.given }
+        ensures missed { self.new.2.missed ≡ self.old.2.missed }
+    {
+        self.engine.select_together(rt, &mut self.ticket, calls)
     }
 
     /// Commits a call that is no select, and has the receipt of what is published then.

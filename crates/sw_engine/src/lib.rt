@@ -8,7 +8,7 @@ mod history;
 mod pausing;
 mod viewing;
 
-pub use engine::{Engine, Session};
+pub use engine::{Engine, Session, TOGETHER};
 pub use heads::counting::HeadStats;
 pub use heads::dealing::deal;
 pub use heads::latch::{LatchedHead, head_of};

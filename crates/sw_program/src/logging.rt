@@ -191,6 +191,10 @@ impl<'s, 'r, R: Clock + Eprint + Wait> Watch<'s, 'r, R> {
 }
 
 impl<R: Clock + Eprint + Wait + Sync> Onlooker for Watch<'_, '_, R> {
+    fn is_timing(&self) -> bool {
+        self.seen.is_timing() || self.times.is_some()
+    }
+
     fn begins(&self, _call: &Call) -> u64 {
         self.seen.now()
     }

@@ -34,13 +34,13 @@ impl Counters {
 
     /// Counts one query more, for which so many areas scanned.
     pub(crate) fn count(&mut self, scans: usize) {
-        self.count_at_rest();
+        self.count_at_rest(1);
         self.scans = self.scans.saturating_add(scans as u64);
     }
 
-    /// Counts one query more, for which none scanned.
-    pub(crate) fn count_at_rest(&self) {
-        let _before = self.queries.fetch_add(1, Ordering::SeqCst);
+    /// Counts so many queries more, for which none scanned.
+    pub(crate) fn count_at_rest(&self, many: usize) {
+        let _before = self.queries.fetch_add(many as u64, Ordering::SeqCst);
     }
 
     /// These numbers beside what the areas tell.

@@ -85,12 +85,16 @@ fn receive_all<M: CrackerMap>(head: &mut Head<M>, inbox: &mut Vec<Update>) -> Re
     Ok(())
 }
 
-/// What a head answered as it stands: the query, its answer, and a receipt of the updates over which it was answered.
+/// What a head answered as it stands: the query, its answer twice, of which one is for the caller and one for the history, and a
+/// receipt of the updates over which it was answered.
 #[derive(Drop)]
 pub struct AtRest<J: Naming> {
     pub(crate) asked: Query,
+    pub(crate) reply: Reply,
     pub(crate) kept: Reply,
     pub(crate) receipt: Front<J>,
+    pub ghost same: { kept ≡ reply },
+    pub ghost plain: { reply ≡ answer_after J.limit J.opening (updates_in receipt) asked },
 }
 
 /// A head, once it is made, the boxes that wait for it, and the updates that were taken for it and that it has not
@@ -266,22 +270,18 @@ impl<J: Naming, M: CrackerMap> LatchedHead<J, M> {
         }
     }
 
-    /// Counts a query that the head answered as it stands, once it stands in the history.
-    pub(crate) fn count_at_rest(&self) {
-        self.counters.count_at_rest();
+    /// Counts so many queries that the head answered as it stands, once they stand in the history.
+    pub(crate) fn count_at_rest(&self, many: usize) {
+        self.counters.count_at_rest(many);
     }
 
-    /// What the head answers as it stands, twice: one reply is for the caller. Nothing but stamps changes, so many may be
-    /// answered at a time.
+    /// What the head answers as it stands. Nothing but stamps changes, so many may be answered at a time.
     ///
     /// None where the head is not made, or waits for a box or an update, or has no receipt of what was taken for it; where
     /// an area is not ready for the query as it stands, or its attribute is another one; and where there is no memory.
-    pub(crate) fn answer_at_rest(&self, alloc: Global, query: &Query) -> Option<(Reply, AtRest<J>)>
+    pub(crate) fn answer_at_rest(&self, alloc: Global, query: &Query) -> Option<AtRest<J>>
         requires asks { AsksBelow 8 query.now }
-        ensures asked { IfSome result (λ r. r.1.asked ≡ query.now) }
-        ensures answered { IfSome result (λ r. r.1.kept
-            ≡ answer_after J.limit J.opening (updates_in r.1.receipt) r.1.asked) }
-        ensures kept { IfSome result (λ r. r.0 ≡ r.1.kept) }
+        ensures asked { IfSome result (λ r. r.asked ≡ query.now) }
     {
         let Some(head) = &self.head else {
             return None;
@@ -299,12 +299,12 @@ impl<J: Naming, M: CrackerMap> LatchedHead<J, M> {
         let Ok(kept) = reply.copied(alloc) else {
             return None;
         };
-        let told = AtRest {
+        Some(AtRest {
             asked,
+            reply,
             kept,
             receipt: receipt.again(),
-        };
-        Some((reply, told))
+        })
     }
 
     /// What the head tells of itself in numbers: no area before it is made.

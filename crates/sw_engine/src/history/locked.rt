@@ -1,6 +1,7 @@
 //! What lies under the lock: the desk, and the shelf of what viewers read.
 
-ghost use Rattle.std.specs.Prelude.{◌≡◌, ◌<◌, ◌≤◌, false, true, None, is_some, length, All, IfErr, IfOk, IsOkUnless, IsSome, IsSomeAnd, MatchBool, OnErr, OnOk};
+ghost use Rattle.std.specs.List.{zip};
+ghost use Rattle.std.specs.Prelude.{◌≡◌, ◌<◌, ◌≤◌, [], false, true, None, is_some, length, map, vec_capacity, All, IfErr, IfOk, IsOkUnless, IsSome, IsSomeAnd, MatchBool, OnErr, OnOk};
 ghost use mathlib.Core.List.{IsPrefix};
 ghost use Rattle.sw_query.specs.declared.query.Call.TheVariants.{Select};
 ghost use Rattle.sw_query.specs.declared.refusal.Refusal.TheVariants.{NoMemory};
@@ -15,10 +16,10 @@ ghost use Rattle.sw_versions.specs.Rules.{updates_in};
 ghost use Rattle.sw_versions.specs.declared.came.Came.TheVariants.{Missed};
 ghost use Rattle.sw_versions.specs.declared.viewer.TheConstants.{MOST_VIEWERS};
 ghost use Rattle.sw_engine.specs.Own.{IsLastOwn, IsNew};
-ghost use Rattle.sw_engine.specs.Sessions.{Answers, AnswersOr, Begins, IsRefused, Sees, Settles, StandsOr, Stays};
+ghost use Rattle.sw_engine.specs.Sessions.{Answers, AnswersAll, AnswersIfSome, Begins, IsRefused, Sees, Settles, StandsIfSome, Stays};
 ghost use Rattle.sw_engine.specs.Desk.{AreOut, InOrder, IsBegun, IsMade, IsSameButTaken, RefusesMany, RefusesNext, TakesPart};
-ghost use Rattle.sw_engine.specs.Locked.{IsCommitted, IsPublished};
-ghost use Rattle.sw_engine.specs.Published.{EndWithEntries, answer_after, later, new_viewer, no_versions, reply_after, TellsAll, with_viewer};
+ghost use Rattle.sw_engine.specs.Locked.{IsCommitted, IsPublished, StandAll};
+ghost use Rattle.sw_engine.specs.Published.{EndWithEntries, later, new_viewer, no_versions, reply_after, TellsAll, with_viewer};
 
 use crate::heads::latch::{AtRest, LatchedHead};
 use crate::heads::opening::Opening;
@@ -247,12 +248,16 @@ impl<J: Naming> LockedDesk<J> {
     }
 
     /// A select that was answered over the updates that a receipt has stands answered at the end of the history, if these are
-    /// all updates: whether it does. Otherwise nothing changes. Refused, nothing of the session's has changed.
-    pub fn answer(&mut self, ticket: &mut Ticket<J>, told: AtRest<J>) -> Result<bool, Refusal>
+    /// all updates: then its reply. Otherwise nothing changes. Refused, nothing of the session's has changed.
+    pub fn answer(
+        &mut self,
+        ticket: &mut Ticket<J>,
+        told: AtRest<J>,
+    ) -> Result<Option<Reply>, Refusal>
         requires asks { CallsBelow (length J.columns) (Select told.asked) }
-        requires reply { told.kept ≡ answer_after J.limit J.opening (updates_in told.receipt) told.asked }
-        ensures answers { IfOk result (AnswersOr told.asked told.kept ticket.old ticket.new) }
-        ensures answered { IfOk result (StandsOr ticket.old.0 told.asked self.old.desk.books self.new.desk.books) }
+        ensures answers { IfOk result (AnswersIfSome told.asked ticket.old ticket.new) }
+        ensures answered { IfOk result
+            (StandsIfSome ticket.old.0 told.asked self.old.desk.books self.new.desk.books) }
         ensures kept { OnErr result (self.new.desk.books ≡ self.old.desk.books) }
         ensures shelf { self.new.shelf ≡ self.old.shelf }
         ensures refused { IfErr result (IsRefused ticket.old ticket.new) }
@@ -260,11 +265,40 @@ impl<J: Naming> LockedDesk<J> {
         let published = self.shelf.published();
         let current = is_current(&told.receipt, &published, self.desk.later());
         if !current {
-            return Ok(false);
+            return Ok(None);
         }
-        match self.stand(ticket, told.asked, told.kept) {
-            Ok(()) => Ok(true),
-            Err(refusal) => Err(refusal),
+        let AtRest {
+            asked,
+            reply,
+            kept,
+            ..
+        } = told;
+        self.stand(ticket, asked, kept)?;
+        Ok(Some(reply))
+    }
+
+    /// Selects that were answered over the updates that their receipts have stand answered at the end of the history, one behind
+    /// the other, up to the first for which that may not be; of that one and of those behind it nothing is left. The replies of
+    /// those that stand are given, for which there is room.
+    pub fn answer_all(
+        &mut self,
+        ticket: &mut Ticket<J>,
+        told: Vec<AtRest<J>>,
+        replies: &mut Vec<Reply>,
+    )
+        requires asks { All (λ t. CallsBelow (length J.columns) (Select t.asked)) told.items }
+        requires none { replies.old.items ≡ [] }
+        requires room { length told.items ≤ vec_capacity replies.old }
+        ensures few { length replies.new.items ≤ length told.items }
+        ensures answers { AnswersAll (zip (map (λ t. Select t.asked) told.items) replies.new.items) ticket.old ticket.new }
+        ensures stand { StandAll ticket.old.0 (zip (map (λ t. Select t.asked) told.items) replies.new.items) self.old self.new }
+    {
+        for one in told {
+            match self.answer(ticket, one) {
+                Ok(Some(reply)) => replies.push_reserved(reply),
+                Ok(None) => return,
+                Err(_) => return,
+            }
         }
     }
 

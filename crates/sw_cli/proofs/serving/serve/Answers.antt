@@ -1,18 +1,13 @@
-use Rattle.std.proofs.Common.{◌≡◌, ◌∙◌, ◌+◌, ◌<◌, ℕ, List, [], length, map, get_or, sym, ap, arith, All}
+use Rattle.std.proofs.Common.{◌≡◌, ◌∙◌, ◌+◌, ◌<◌, List, [], length, map, get_or, sym, ap, arith, All}
 use Rattle.std.proofs.lemmas.List.{get_or-map}
 use Rattle.sw_query.specs.declared.query.Call.{Call}
 use Rattle.sw_engine.specs.Published.{Shown}
 use Rattle.sw_cli.specs.Outcomes.{AreTold, SaysWhy, Told, blocks_told}
 use Rattle.sw_cli.specs.Served.{AreAnswered}
-use Rattle.sw_cli.specs.Script.{AllCallsBelow}
-use Rattle.sw_cli.proofs.Lists.{all_map, at_place, counted_at, length_map}
+use Rattle.sw_cli.proofs.Lists.{at_place, counted_at, length_map}
 use Rattle.sw_cli.proofs.Records.{blocks_why, collected, no_ticket, record_of}
 use Rattle.sw_cli.proofs.serving.serve.Given.{Over}
 use Rattle.sw_cli.proofs.serving.serve.Goals as goal
-
-pub make_at_once-requires-clause-below : goal.make_at_once-requires-clause-below
-make_at_once-requires-clause-below g c κs within =
-    all_map (λ (cs : List Call). AllCallsBelow (length g.J.Naming.columns) cs) (λ j. j.calls.now) c.in-Ok.work.items c.args.blocks.now (sym c.in-Ok.ensures.calls) c.requires.blocks.below
 
 -- what the sessions of the blocks were answered
 all_made : (g : Over) (c : goal.In-Ok-close g) → AreTold c.args.blocks.now c.in-Ok-parted.told.items × AreAnswered 1 (blocks_told c.args.blocks.now c.in-Ok-parted.told.items) c.in-Ok-parted.ended.items
@@ -22,7 +17,7 @@ all_made g c =
     let blocks = c.args.blocks.now in
     let tells = c.in-Ok-parted.told.items in
     let tickets = c.in-Ok-parted.ended.items in
-    let many : length w ≡ length blocks = sym (length_map (λ j. j.calls.now) w) ∙ ap length c.in-Ok.ensures.calls in
+    let many : length w ≡ length blocks = sym (length_map (λ j. j.calls) w) ∙ ap length c.in-Ok.ensures.calls in
     let dones : length done ≡ length w = c.in-Ok-make_at_once.ensures.0 in
     let et : length tells ≡ length blocks = ap length c.in-Ok-parted.ensures.told ∙ (length_map (λ d. d.told) done ∙ (dones ∙ many)) in
     let ev : length tickets ≡ length blocks = ap length c.in-Ok-parted.ensures.tickets ∙ (length_map (λ d. d.ticket) done ∙ (dones ∙ many)) in
@@ -34,7 +29,7 @@ all_made g c =
     let made = c.in-Ok-make_at_once.ensures.1 i j d ltw in
     let ticket : get_or tickets i no_ticket ≡ (get_or done i d).ticket = ap (λ (l : List Shown). get_or l i no_ticket) c.in-Ok-parted.ensures.tickets ∙ get_or-map (λ d. d.ticket) done i d no_ticket ltd in
     let told : get_or tells i [] ≡ (get_or done i d).told = ap (λ (l : List (List Told)). get_or l i []) c.in-Ok-parted.ensures.told ∙ get_or-map (λ d. d.told) done i d [] ltd in
-    let calls : get_or blocks i [] ≡ (get_or w i j).calls.now = ap (λ (l : List (List Call)). get_or l i []) (sym c.in-Ok.ensures.calls) ∙ get_or-map (λ j. j.calls.now) w i j [] ltw in
+    let calls : get_or blocks i [] ≡ (get_or w i j).calls = ap (λ (l : List (List Call)). get_or l i []) (sym c.in-Ok.ensures.calls) ∙ get_or-map (λ j. j.calls) w i j [] ltw in
     let count = counted_at 1 (map (λ j. j.session.0) w) i 0 c.in-Ok.ensures.numbers (let e = length_map (λ j. j.session.0) w in omega (arith, e, ltw)) in
     let session : (get_or w i j).session.0 ≡ 1 + i = sym (get_or-map (λ j. j.session.0) w i j 0 ltw) ∙ count in
     (rw ticket (made.number ∙ session), rw (told, calls) made.all, rw (ticket, told, calls) made.made, rw (ticket, told, calls) made.left))

@@ -1,5 +1,5 @@
 use Rattle.std.proofs.Common.{◌<◌, length, arith}
-use Rattle.sw_engine.proofs.engine.Engine.select_at_rest.Goals as goal
+use Rattle.sw_engine.proofs.engine.Engine.share.Goals as goal
 
 pub index-requires : goal.index-requires
 index-requires g c =
