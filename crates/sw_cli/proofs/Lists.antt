@@ -1,6 +1,6 @@
 -- Lists that grow at their end, and what is left of them.
-use Rattle.std.proofs.Common.{◌≡◌, ℕ, zero, suc, ◌+◌, ◌<◌, List, [], ◌∷◌, ◌++◌, drop, length, take, map, get_or, refl, sym, ◌∙◌, ap, subst, arith, All, ⊎_elim}
-use Rattle.std.proofs.lemmas.List.{drop_more, take_more, get_or-map}
+use Rattle.std.proofs.Common.{◌≡◌, ℕ, zero, suc, ◌+◌, ◌<◌, List, [], ◌∷◌, ◌++◌, drop, length, take, map, get_or, refl, sym, ◌∙◌, ap, subst, arith, ⊎_elim}
+use Rattle.std.proofs.lemmas.List.{drop_more, take_more}
 use Rattle.std.proofs.lemmas.Bool.{cases_lt}
 use Rattle.sw_engine.specs.Desk.{AreCounted}
 
@@ -33,10 +33,6 @@ length_map f (x ∷ xs) = ap suc (length_map f xs)
 -- the first n items, and the next one, are the first n + 1
 pub take_push : {A : Type 0} (bs ys zs : List A) (d : A) (n : ℕ) → ys ≡ take n bs → n < length bs → zs ≡ ys ++ get_or bs n d ∷ [] → zs ≡ take (n + 1) bs
 take_push bs ys zs d n is lt e = e ∙ (ap (λ us. us ++ get_or bs n d ∷ []) is ∙ sym (take_more bs n d lt))
-
--- what holds of the images holds at the elements
-pub all_map : {A B : Type 0} (P : B → Type 0) (f : A → B) (xs : List A) (ys : List B) → ys ≡ map f xs → All P ys → All (λ x. P (f x)) xs
-all_map P f xs ys is all i d lt = subst P (ap (λ (l : List _). get_or l i (f d)) is ∙ get_or-map f xs i d (f d) lt) (all i (f d) (let e = ap length is ∙ length_map f xs in omega (arith, e, lt)))
 
 -- a list of no items is empty
 pub none_at : {A : Type 0} (xs : List A) → length xs ≡ 0 → xs ≡ []

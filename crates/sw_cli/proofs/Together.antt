@@ -33,6 +33,7 @@ outcomes_then (c ∷ cs) (t ∷ ts) us few = ap (λ (l : List Outcome). (c, t) �
 abbrev pub all_told : List Reply → List Told
 all_told rs = map (λ r. Ok r) rs
 
+-- none of them says why
 pub all_say_why : (rs : List Reply) → All SaysWhy (all_told rs)
 all_say_why rs = All-map SaysWhy (λ r. Ok r) rs (λ k d less. tt)
 
