@@ -3,7 +3,7 @@ use Rattle.std.proofs.Common.{rules, ◌≡◌, inl, inr, ◌∙◌, ◌<◌, �
 use Rattle.std.specs.List.{zip}
 use Rattle.std.proofs.Math.Seq.{take-length}
 use Rattle.std.specs.Prelude.{IfOk, OnErr}
-use Rattle.std.proofs.lemmas.List.{length-append, length-map}
+use Rattle.std.proofs.lemmas.List.{length-append, length-drop, length-map}
 use Rattle.std.proofs.lemmas.List.Elements.{All-append, All-map, All-push}
 use Rattle.sw_query.specs.declared.query.Call.{Call}
 use Rattle.sw_query.specs.declared.reply.Reply.{Reply}
@@ -64,23 +64,16 @@ left_all (c ∷ cs) (r ∷ rs) = ((c, state.Answered r) ∷ [], map (λ m. (m.0,
 
 -- ---- what a session made
 
-length_drop : {A : Type 0} (n : ℕ) (xs : List A) → n ≤ length xs → length (drop n xs) + n ≡ length xs
-length_drop zero xs few = omega arith
-length_drop (suc n) [] few = absurd (omega (arith, few))
-length_drop (suc n) (x ∷ xs) few = let e = length_drop n xs (omega (arith, few)) in omega (arith, e)
-
 -- the calls that are left, as a slice of all
 pub calls_left : {A : Type 0} (n m : ℕ) (xs : List A) → n ≡ m → m ≤ length xs → take (length xs - n) (drop n xs) ≡ drop m xs
 calls_left n m xs is few =
-    let e = length_drop m xs few in
-    let k : length xs - m ≡ length (drop m xs) = omega (arith, e) in
-    ap (λ i. take (length xs - i) (drop i xs)) is ∙ (ap (λ i. take i (drop m xs)) k ∙ take-length (drop m xs))
+    ap (λ i. take (length xs - i) (drop i xs)) is ∙ (ap (λ i. take i (drop m xs)) (sym (length-drop m xs)) ∙ take-length (drop m xs))
 
 -- behind calls that were answered together
 pub made_together : (cs : List Call) (ts : List Told) (rs : List Reply) (old new : Shown) → HasMade old cs ts → length rs ≤ length (drop (length ts) cs)
     → new.1 ≡ old.1 ++ zip (drop (length ts) cs) rs → LeavesAnswered (zip (drop (length ts) cs) rs) old new → HasMade new cs (ts ++ all_told rs)
 made_together cs ts rs old new h few mine own = record {
-  few = let e = length-append ts (all_told rs) in let k = length-map {B = Told} rs (λ r. Ok r) in let d = length_drop (length ts) cs h.few in omega (arith, e, k, d, few);
+  few = let e = length-append ts (all_told rs) in let k = length-map {B = Told} rs (λ r. Ok r) in let d = length-drop (length ts) cs in let low = h.few in omega (arith, e, k, d, low, few);
   made = mine ∙ ap (λ l. l ++ zip (drop (length ts) cs) rs) h.made
       ∙ ap (λ l. answered (outcomes_of cs ts) ++ l) (sym (answered_all (drop (length ts) cs) rs))
       ∙ sym (answered_both (outcomes_of cs ts) (outcomes_of (drop (length ts) cs) (all_told rs)))

@@ -116,7 +116,7 @@ impl Calls<'_> {
             number: (number as u64).saturating_add(1),
             block,
             line,
-            call: &entry.call,
+            call: entry.call.get(),
             reply: reply_of(entry),
         })
     }

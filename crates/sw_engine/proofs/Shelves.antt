@@ -7,6 +7,7 @@ use mathlib.Core.List.{IsPrefix}
 use Rattle.sw_rows.specs.Header.{Column}
 use Rattle.sw_query.specs.declared.query.Call.{Call}
 use Rattle.sw_query.specs.declared.query.Query.{Query}
+use Rattle.sw_query.specs.declared.reply.Reply.{Reply}
 use Rattle.sw_table.specs.declared.row.Row.{Row}
 use Rattle.sw_table.specs.declared.row.Update.{Update}
 use Rattle.sw_versions.specs.Known.{Shelved}
@@ -16,14 +17,13 @@ use Rattle.sw_versions.proofs.Batches.{all_added, all_begins, booked_begins}
 use Rattle.sw_versions.proofs.Prefixes.{prefix_length, prefix_rest, prefix_self, prefix_taken, prefix_trans}
 use Rattle.sw_spine.specs.Table.{opened}
 use Rattle.sw_spine.specs.History.{settled, updates_after}
-use Rattle.sw_spine.specs.Books.{Books, new_books, updates, with_answered, with_published, with_session, with_settled}
+use Rattle.sw_spine.specs.Books.{Books, new_books, updates, with_all_answered, with_answered, with_published, with_session, with_settled}
 use Rattle.sw_spine.specs.declared.history.Entry.{Entry}
 use Rattle.sw_spine.specs.declared.history.State.{State}
 use Rattle.sw_spine.proofs.Histories.{length_settled}
 use Rattle.sw_spine.proofs.StoreLemmas.{length_opened}
 use Rattle.sw_engine.specs.Desk.{IsBegun}
 use Rattle.sw_engine.specs.Published.{EndWithEntries, EndsEntry, IsOfFirst, IsShelfOf, TellsAll, later, no_versions, published_of, with_viewer}
-use Rattle.sw_engine.proofs.Ties.{length_push}
 use Rattle.sw_engine.proofs.Published.{drop_grows}
 use Rattle.sw_engine.proofs.Whole.{first_settled}
 
@@ -37,12 +37,12 @@ none_end : (limit : ℕ) (opening : List Row) (es : List Entry) → EndWithEntri
 none_end limit opening es zero = none_first limit opening es
 none_end limit opening es (suc k) = none_first limit opening es
 
--- one entry more at the end
-first_more : (limit : ℕ) (opening : List Row) (es : List Entry) (e : Entry) (list : List Update) → IsOfFirst limit opening es list → IsOfFirst limit opening (es ++ e ∷ []) list
-first_more limit opening es e list h = (
+-- entries more at the end
+first_more : (limit : ℕ) (opening : List Row) (es fs : List Entry) (list : List Update) → IsOfFirst limit opening es list → IsOfFirst limit opening (es ++ fs) list
+first_more limit opening es fs list h = (
   h.0,
-  (let more = length_push es e in omega (arith, h.1, more)),
-  h.2 ∙ ap (λ (l : List Entry). updates_after limit (opened opening) l) (sym (take-append-le h.0 es (e ∷ []) h.1)),
+  (let more = length-append es fs in omega (arith, h.1, more)),
+  h.2 ∙ ap (λ (l : List Entry). updates_after limit (opened opening) l) (sym (take-append-le h.0 es fs h.1)),
 )
 
 -- an entry is settled
@@ -193,6 +193,21 @@ shelf_answered limit opening session c b b' s more is e u = record {
   published = is.published;
   counted = ap (λ (x : Books). x.published) e ∙ is.counted;
 }
+
+-- entries more, that bring no update
+shelf_more : (limit : ℕ) (opening : List Row) (session : ℕ) (ts : List (Query × Reply)) (b b' : Books) (s : Shelved) → IsShelfOf limit opening b s → b' ≡ with_all_answered session ts b → updates b' ≡ updates b → IsShelfOf limit opening b' s
+shelf_more limit opening session ts b b' s is e u = record {
+  booked = subst (λ (us : List Update). IsPrefix (updates_in s.booked) (drop (length opening) us)) (sym u) is.booked;
+  ends = λ k. subst (λ (x : Books). IsOfFirst limit opening x.entries (updates_in (take k s.booked))) (sym e) (first_more limit opening b.entries _ (updates_in (take k s.booked)) (is.ends k));
+  published = is.published;
+  counted = ap (λ (x : Books). x.published) e ∙ is.counted;
+}
+
+-- so it is with selects that stand answered together, or were refused
+pub shelf_told_all : {A E : Type 0} (told : Result A E) (limit : ℕ) (opening : List Row) (session : ℕ) (ts : List (Query × Reply)) (b x : Books) (s : Shelved) → IsShelfOf limit opening b s
+    → OnOk told (x ≡ with_all_answered session ts b) → OnErr told (x ≡ b) → updates x ≡ updates b → IsShelfOf limit opening x s
+shelf_told_all (Ok a) limit opening session ts b x s is ok err same = shelf_more limit opening session ts b x s is ok same
+shelf_told_all (Err e) limit opening session ts b x s is ok err same = subst (λ (y : Books). IsShelfOf limit opening y s) (sym err) is
 
 -- the shelf caught up with all updates, and the spine has the number of those that are published
 pub shelf_caught : (limit : ℕ) (opening : List Row) (b : Books) (s v : Shelved) (all : List Update) (n : ℕ) → IsShelfOf limit opening b s → all ≡ later opening b → IsOfFirst limit opening b.entries (later opening b)

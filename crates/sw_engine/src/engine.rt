@@ -16,15 +16,16 @@ ghost use Rattle.sw_versions.specs.Lists.{IsLonger};
 ghost use Rattle.sw_versions.specs.Refused.{IsAhead};
 ghost use Rattle.sw_versions.specs.Rules.{updates_in};
 ghost use Rattle.sw_engine.specs.Published.{CallGives, CountsMisses, EndWithEntries, GivesReceipt, HaveAll, IsOfFirst, RefusesViewing, TellsAll, answered_to};
+ghost use Rattle.sw_engine.specs.declared.heads.latch.TheConstants.{TOGETHER};
 ghost use Rattle.sw_engine.specs.Headline.{IsHistoryOfOneThread};
-ghost use Rattle.sw_engine.specs.declared.engine.TheConstants.{PART, TOGETHER};
+ghost use Rattle.sw_engine.specs.declared.engine.TheConstants.{PART};
 ghost use Rattle.sw_engine.specs.Later.{Begin};
 ghost use Rattle.sw_engine.specs.Own.{IsEnded, IsLastOwn, IsNew, LeavesAnswered, LeavesCall, LeavesCommit, LeavesSelect, own_of};
 ghost use Rattle.sw_engine.specs.Sessions.{Answers, AnswersAll, AnswersIfSome, GivesUp, IsRefused, Refuses, Stays};
 
 use crate::conds::add_all;
 use crate::heads::counting::HeadStats;
-use crate::heads::latch::{AtRest, LatchedHead, head_of};
+use crate::heads::latch::{LatchedHead, head_of, short_query};
 use crate::heads::latching::{AloneLatch, Latch};
 use crate::heads::opening::{Ground, Opening};
 use crate::history::desk::{Blank, Desk};
@@ -40,29 +41,12 @@ use std::sync::{Mutex, MutexGuard, RwLockReadGuard, Wait};
 use std::thread::Threads;
 use sw_lang::Cuts;
 use sw_map::CrackerMap;
-use sw_rows::{Call, Cond, Conds, PackedRows, Query, Refusal, Reply, Schema, Want};
+use sw_rows::{Call, Cond, Conds, PackedRows, Query, Refusal, Reply, Schema};
 use sw_spine::Record;
 use sw_versions::{Draft, Naming};
 
 /// How many updates a head, or what is made for viewers, takes in a visit at most.
 const PART: usize = 1024;
-
-/// How many calls are answered together at most. By then what a visit of the lock costs is a small part of them. Who wants the head
-/// alone waits for as many.
-pub const TOGETHER: usize = 16;
-
-/// What a call asks, if it is a select that lists no rows.
-fn short_query(call: &Call) -> Option<&Query>
-    ensures { IfSome result (λ q. call.now ≡ Select q.now) }
-{
-    match call {
-        Call::Select(query) => match query.want {
-            Want::Rows(_) => None,
-            _ => Some(query),
-        },
-        _ => None,
-    }
-}
 
 /// What lies under the lock. Others mostly hold it for less time than a sleep takes, so the thread looks at it many times between
 /// pauses before it sleeps.
@@ -490,36 +474,6 @@ impl<J: Naming, M: CrackerMap, L: Latch<LatchedHead<J, M>>> Engine<J, M, L> {
         stood
     }
 
-    /// What a head answers as it stands of the first of these calls: up to the first that is no select of that head, or lists rows, or
-    /// that the head is not ready for; and no more than `TOGETHER`. Nothing where updates came meanwhile.
-    fn ask_all(&self, head: &LatchedHead<J, M>, calls: &[Call]) -> Vec<AtRest<J>>
-        requires { All (CallsBelow (length J.columns)) calls.now }
-        ensures few { length result.items ≤ length calls.now }
-        ensures most { length result.items ≤ TOGETHER }
-        ensures asked { map (λ t. Select t.asked) result.items ≡ take (length result.items) calls.now }
-    {
-        let mut told = Vec::new(self.alloc);
-        if told.reserve(TOGETHER).is_err() {
-            return told;
-        }
-        for call in calls {
-            let Some(query) = short_query(call) else {
-                return told;
-            };
-            if told.len() == TOGETHER {
-                return told;
-            }
-            if !head.may_have(self.came.load(Ordering::SeqCst)) {
-                return Vec::new(self.alloc);
-            }
-            let Some(one) = head.answer_at_rest(self.alloc, query) else {
-                return told;
-            };
-            told.push_reserved(one);
-        }
-        told
-    }
-
     /// Answers the first of these calls from a head that is shared, as far as it is ready for them as it stands and lacks no update,
     /// and they stand in the history by one visit.
     fn select_together<R: Wait>(&self, rt: &R, ticket: &mut Ticket<J>, calls: &[Call]) -> Vec<Reply>
@@ -529,27 +483,28 @@ impl<J: Naming, M: CrackerMap, L: Latch<LatchedHead<J, M>>> Engine<J, M, L> {
         ensures selects { All (λ c. is_select c ≡ true) (take (length result.items) calls.now) }
         ensures answers { AnswersAll (zip calls.now result.items) ticket.old ticket.new }
     {
-        let mut replies = Vec::new(self.alloc);
+        let none = Vec::new(self.alloc);
         let Some(call) = calls.first() else {
-            return replies;
+            return none;
         };
         let Some(query) = short_query(call) else {
-            return replies;
+            return none;
         };
         let Some(head) = self.share(rt, query) else {
-            return replies;
+            return none;
         };
-        let told = self.ask_all(&head, calls);
-        if told.is_empty() {
-            return replies;
+        let Some(told) = head.answer_all_at_rest(self.alloc, calls) else {
+            return none;
+        };
+        if told.replies.is_empty() {
+            return none;
         }
-        if replies.reserve(told.len()).is_err() {
-            return replies;
-        }
-        self.visit(rt).answer_all(ticket, told, &mut replies);
-        if !replies.is_empty() {
-            head.count_at_rest(replies.len());
-        }
+        // the lock is let go before the head's own count
+        let stood = self.visit(rt).answer_all(ticket, told);
+        let Some(replies) = stood else {
+            return none;
+        };
+        head.count_at_rest(replies.len());
         replies
     }
 

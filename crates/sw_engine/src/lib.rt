@@ -8,10 +8,10 @@ mod history;
 mod pausing;
 mod viewing;
 
-pub use engine::{Engine, Session, TOGETHER};
+pub use engine::{Engine, Session};
 pub use heads::counting::HeadStats;
 pub use heads::dealing::deal;
-pub use heads::latch::{LatchedHead, head_of};
+pub use heads::latch::{LatchedHead, TOGETHER, head_of};
 pub use heads::latching::{AloneLatch, Latch, SharedLatch};
 pub use history::desk::Blank;
 pub use history::ticket::Ticket;

@@ -91,7 +91,7 @@ fn has_delete_where(entries: &[Entry]) -> bool
 {
     let mut rest = entries;
     while let Some((entry, later)) = rest.split_first() {
-        if is_delete_where(&entry.call) {
+        if is_delete_where(entry.call.get()) {
             return true;
         }
         rest = later;
@@ -166,8 +166,8 @@ fn state_value(
 fn entry_value(alloc: Global, schema: &Schema, entry: &Entry) -> Result<Value, AllocError>
     ensures { IfOk result (λ v. view v ≡ entry_data schema.now entry.now) }
 {
-    let call = call_string(alloc, schema, &entry.call)?;
-    let reply = state_value(alloc, schema, &entry.call, &entry.state)?;
+    let call = call_string(alloc, schema, entry.call.get())?;
+    let reply = state_value(alloc, schema, entry.call.get(), &entry.state)?;
     json!(in alloc; {"call": call, "reply": reply, "session": entry.session})
 }
 

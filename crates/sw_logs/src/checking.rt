@@ -9,7 +9,7 @@ use crate::logged::Logged;
 use crate::order::By;
 use std::alloc::{AllocError, Global};
 use sw_rows::{Call, Reply};
-use sw_spine::{Entry, MOST_SESSIONS, State};
+use sw_spine::{Entry, KeptCall, MOST_SESSIONS, State};
 
 /// What a call is answered that was given this key or took out so many rows.
 fn reply_of(call: &Call, told: Option<u64>) -> Reply {
@@ -41,7 +41,7 @@ fn entry_of(alloc: Global, call: &Logged, told: Option<u64>) -> Result<Entry, Al
     let copy = copied_call(alloc, &call.call)?;
     Ok(Entry {
         session: call.session,
-        call: copy,
+        call: KeptCall::new(alloc, copy)?,
         state,
     })
 }

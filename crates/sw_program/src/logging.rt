@@ -262,7 +262,7 @@ fn call_bytes(alloc: Global, schema: &Schema, call: &Call) -> Result<Vec<u8>, Al
 /// The lines of a reply, without the end of the last.
 fn reply_bytes(alloc: Global, schema: &Schema, made: &Made<'_>) -> Result<Vec<u8>, AllocError> {
     let mut out = Counted::new(Vec::new(alloc));
-    match write_reply(schema, &made.entry.call, made.reply, &mut out) {
+    match write_reply(schema, made.entry.call.get(), made.reply, &mut out) {
         Ok(()) => {
             let mut lines = out.inner;
             let _end = lines.pop();
@@ -283,7 +283,7 @@ fn record_of(alloc: Global, schema: &Schema, made: &Made<'_>) -> Result<ByteReco
     add_number(alloc, made.entry.session, &mut record)?;
     add_number(alloc, made.start, &mut record)?;
     add_number(alloc, made.end, &mut record)?;
-    record.push_field(call_bytes(alloc, schema, &made.entry.call)?.as_slice())?;
+    record.push_field(call_bytes(alloc, schema, made.entry.call.get())?.as_slice())?;
     record.push_field(reply_bytes(alloc, schema, made)?.as_slice())?;
     Ok(record)
 }

@@ -2,7 +2,7 @@
 
 ghost use Rattle.std.specs.Prelude.{◌≡◌, ◌<◌, ◌≤◌, [], map, length, All, IsOk, IsOkUnless};
 ghost use Rattle.sw_query.specs.declared.refusal.Refusal.TheVariants.{NoMemory};
-ghost use Rattle.sw_query.specs.Scan.{AsksBelow, CondsBelow, WantsBelow, TakesMemory, answer_over, meets_all};
+ghost use Rattle.sw_query.specs.Scan.{AsksBelow, CondsBelow, WantsBelow, TakesMemory, answer_over, column, greatest, least, meets_all, total};
 ghost use Rattle.sw_map.specs.Lawful.{IsLawful};
 ghost use Rattle.sw_set.specs.Needs.{head_in, needed};
 ghost use Rattle.sw_query.specs.Outcomes.{MemoryAside};
@@ -77,7 +77,9 @@ fn choose<M: CrackerMap>(
     Ok(Choice { bits: Some(bits) })
 }
 
-/// The chosen rows of a range, in key order.
+/// The chosen rows of a range, in key order. It stands apart, as the next three do, so that a count, which needs no window, has
+/// none on its stack.
+#[inline(never)]
 fn select<M: CrackerMap>(
     alloc: Global,
     boxes: &[M],
@@ -100,6 +102,72 @@ fn select<M: CrackerMap>(
     sort_by_key(alloc, &mut found);
     let columns = columns_of(boxes, head, tape, names);
     rows_at(alloc, boxes, &columns, names, &found)
+}
+
+/// The sum of an attribute's cells over the chosen rows of a range, 0 for none.
+#[inline(never)]
+fn sum_of_cells<M: CrackerMap>(
+    boxes: &[M],
+    head: u8,
+    tape: &Tape,
+    attr: usize,
+    from: usize,
+    upto: usize,
+    choice: &Choice,
+) -> i128
+    requires few { attr < 8 }
+    requires stocked { AreStocked head tape.now (map M.held boxes.now) }
+    requires cells { HasCells head tape.now (map M.held boxes.now) attr }
+    requires ordered { from ≤ upto }
+    requires within { upto ≤ length (shown_rows head tape.now) }
+    ensures { result ≡ total (column attr (chosen_rows head tape.now from upto choice.now.bits)) }
+{
+    let mut cells = window_of_cells(boxes, head, tape, attr, from, upto);
+    sum(&mut cells, choice)
+}
+
+/// The least of an attribute's cells over the chosen rows of a range, if there is one.
+#[inline(never)]
+fn min_of_cells<M: CrackerMap>(
+    boxes: &[M],
+    head: u8,
+    tape: &Tape,
+    attr: usize,
+    from: usize,
+    upto: usize,
+    choice: &Choice,
+) -> Option<i64>
+    requires few { attr < 8 }
+    requires stocked { AreStocked head tape.now (map M.held boxes.now) }
+    requires cells { HasCells head tape.now (map M.held boxes.now) attr }
+    requires ordered { from ≤ upto }
+    requires within { upto ≤ length (shown_rows head tape.now) }
+    ensures { result ≡ least (column attr (chosen_rows head tape.now from upto choice.now.bits)) }
+{
+    let mut cells = window_of_cells(boxes, head, tape, attr, from, upto);
+    min(&mut cells, choice)
+}
+
+/// The greatest of an attribute's cells over the chosen rows of a range, if there is one.
+#[inline(never)]
+fn max_of_cells<M: CrackerMap>(
+    boxes: &[M],
+    head: u8,
+    tape: &Tape,
+    attr: usize,
+    from: usize,
+    upto: usize,
+    choice: &Choice,
+) -> Option<i64>
+    requires few { attr < 8 }
+    requires stocked { AreStocked head tape.now (map M.held boxes.now) }
+    requires cells { HasCells head tape.now (map M.held boxes.now) attr }
+    requires ordered { from ≤ upto }
+    requires within { upto ≤ length (shown_rows head tape.now) }
+    ensures { result ≡ greatest (column attr (chosen_rows head tape.now from upto choice.now.bits)) }
+{
+    let mut cells = window_of_cells(boxes, head, tape, attr, from, upto);
+    max(&mut cells, choice)
 }
 
 /// What is wanted of the chosen rows of a range. Only a list of rows takes memory.
@@ -137,18 +205,15 @@ fn wanted<M: CrackerMap>(
             Err(e) => Err(e),
         },
         Want::Count => Ok(Reply::Count(choice.count(upto - from) as u64)),
-        Want::Sum(attr) => {
-            let mut cells = window_of_cells(boxes, head, tape, *attr, from, upto);
-            Ok(Reply::Sum(sum(&mut cells, choice)))
-        }
-        Want::Min(attr) => {
-            let mut cells = window_of_cells(boxes, head, tape, *attr, from, upto);
-            Ok(Reply::Least(min(&mut cells, choice)))
-        }
-        Want::Max(attr) => {
-            let mut cells = window_of_cells(boxes, head, tape, *attr, from, upto);
-            Ok(Reply::Least(max(&mut cells, choice)))
-        }
+        Want::Sum(attr) => Ok(Reply::Sum(sum_of_cells(
+            boxes, head, tape, *attr, from, upto, choice,
+        ))),
+        Want::Min(attr) => Ok(Reply::Least(min_of_cells(
+            boxes, head, tape, *attr, from, upto, choice,
+        ))),
+        Want::Max(attr) => Ok(Reply::Least(max_of_cells(
+            boxes, head, tape, *attr, from, upto, choice,
+        ))),
     }
 }
 

@@ -1,5 +1,5 @@
 -- The places of cells within two bounds, by pairs of cells and places in some order.
-use Rattle.std.proofs.Common.{◌≡◌, ◌<◌, ◌≤◌, ◌≤ℤ◌, ◌+◌, ◌-◌, ◌++◌, ◌==◌, ◌∙◌, ◌⊎◌, ℕ, ℤ, zero, suc, Bool, true, false, cond, not, List, [], ◌∷◌, length, map, filter, get_or, take, drop, refl, sym, ap, arith, Bor, Some, None, ⊎_elim, inl, inr}
+use Rattle.std.proofs.Common.{◌≡◌, ◌<◌, ◌≤◌, ◌≤ℤ◌, ◌+◌, ◌-◌, ◌++◌, ◌==◌, ◌∙◌, ◌⊎◌, ℕ, ℤ, zero, suc, Bool, true, false, cond, not, List, [], ◌∷◌, length, map, filter, get_or, take, drop, refl, sym, ap, arith, Bor, Some, None, ⊎_elim}
 use Rattle.std.specs.Prelude.{IsPermutation, Option, sum_by}
 use denote.Param.Members.{Mut}
 use Rattle.std.specs.Fn.{Called, ComputesKey}

@@ -1,5 +1,5 @@
 -- A pass over listed places meets all live rows, while rows come and go.
-use Rattle.std.proofs.Common.{◌≡◌, ◌≢◌, subst, ◌<◌, ◌≤◌, ◌+◌, ◌-◌, ◌++◌, ◌==◌, ◌∙◌, ◌⊎◌, ℕ, zero, suc, Bool, true, false, cond, List, [], ◌∷◌, length, map, get_or, set, replicate, refl, sym, ap, append_assoc, length-append, length-set, arith, ⊎_elim, inl, inr}
+use Rattle.std.proofs.Common.{◌≡◌, ◌≢◌, subst, ◌<◌, ◌≤◌, ◌+◌, ◌-◌, ◌++◌, ◌==◌, ◌∙◌, ◌⊎◌, ℕ, zero, suc, Bool, true, false, List, [], ◌∷◌, length, map, get_or, set, replicate, refl, sym, ap, append_assoc, length-append, length-set, arith, ⊎_elim, inl, inr}
 use Rattle.std.specs.List.{AllByRecursion, range_with_len}
 use Rattle.std.proofs.lemmas.Bool.{cases_lt}
 use Rattle.std.proofs.lemmas.Bool.Decides.{nat_tests}
@@ -9,7 +9,7 @@ use Rattle.std.proofs.Math.Seq.{get_or-append_seam}
 use Rattle.sw_table.specs.Kept.{kept}
 use Rattle.sw_table.specs.Updates.{without}
 use Rattle.sw_table.specs.declared.row.Row.{Row}
-use Rattle.sw_table.proofs.LiveLaws.{kept-fresh, kept-more, kept-removed}
+use Rattle.sw_table.proofs.LiveLaws.{kept-more, kept-removed}
 use Rattle.sw_spine.specs.Listed.{IsListed, MeetsAllLive, flags_at, listed, rows_at}
 use Rattle.sw_spine.specs.Table.{is_numbered}
 use Rattle.sw_spine.proofs.StoreLemmas.{numbered_at, numbered_rises}

@@ -1,7 +1,7 @@
 -- A pass over places that an index gives meets each row that meets all of some conditions.
-use Rattle.std.proofs.Common.{◌≡◌, ◌≢◌, ◌<◌, ◌≤◌, ◌+◌, ◌-◌, ◌++◌, ◌∙◌, subst, ℕ, ℤ, zero, suc, Bool, true, false, cond, List, [], ◌∷◌, length, map, filter, get_or, set, replicate, refl, sym, ap, append_assoc, length-append, length-set, arith, ⊎_elim}
+use Rattle.std.proofs.Common.{◌≡◌, ◌≢◌, ◌<◌, ◌≤◌, ◌+◌, ◌-◌, ◌++◌, ◌∙◌, subst, ℕ, ℤ, zero, suc, Bool, true, false, List, [], ◌∷◌, length, map, get_or, set, replicate, refl, sym, ap, append_assoc, length-append, length-set, arith, ⊎_elim}
 use Rattle.std.specs.Prelude.{Contains, IfSome, OnErr, OnOk, Option, None, Some, Result, Ok, Err}
-use Rattle.std.specs.List.{AllByRecursion, list_all, range_with_len}
+use Rattle.std.specs.List.{range_with_len}
 use Rattle.std.proofs.lemmas.Bool.{cases_lt}
 use Rattle.std.proofs.lemmas.List.{append-nil, get_or-replicate, get_or-set_other, get_or-set_same, length-map, length-replicate, map-append}
 use Rattle.std.proofs.lemmas.List.Elements.{at_from_Contains}
@@ -12,11 +12,11 @@ use Rattle.sw_query.specs.Scan.{cell_of, column, matching, meets, meets_all}
 use Rattle.sw_query.specs.declared.bound.Bound.{Bound}
 use Rattle.sw_query.specs.declared.query.Cond.{Cond}
 use Rattle.sw_table.specs.Kept.{kept}
-use Rattle.sw_table.specs.Live.{Living, came_with, live_rows}
+use Rattle.sw_table.specs.Live.{Living, came_with}
 use Rattle.sw_table.specs.declared.row.Row.{Row}
 use Rattle.sw_table.proofs.LiveLaws.{kept-fresh}
 use Rattle.sw_spine.specs.Listed.{flags_at, listed, rows_at}
-use Rattle.sw_spine.specs.Indexes.{AreIndexes, IsIndexOf, IsIndexOfFirst, IsInside, MeetsMatching, PlacesOf, places_within}
+use Rattle.sw_spine.specs.Indexes.{AreIndexes, IsIndexOf, IsIndexOfFirst, MeetsMatching, PlacesOf, places_within}
 use Rattle.sw_spine.proofs.IndexLemmas.{index-length}
 use Rattle.sw_spine.proofs.ListedLemmas.{Inside, at-all, inside-kept, inside-range, no_row}
 

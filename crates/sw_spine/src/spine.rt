@@ -1,6 +1,6 @@
 //! The spine.
 
-ghost use Rattle.std.specs.Prelude.{ℕ, ◌≡◌, ◌<◌, ◌≤◌, ◌-◌, ◌++◌, ◌∷◌, [], true, false, Some, None, drop, length, slice_index_or, slice_set, IfErr, IfOk, IfSome, IsOkUnless, IsSome, IsSomeAnd, MatchResult, OnErr, OnOk};
+ghost use Rattle.std.specs.Prelude.{ℕ, ◌≡◌, ◌<◌, ◌≤◌, ◌+◌, ◌-◌, ◌++◌, ◌∷◌, [], true, false, Some, None, drop, length, map, slice_index_or, slice_set, vec_capacity, vec_len, All, IfErr, IfOk, IfSome, IsOkUnless, IsSome, IsSomeAnd, MatchResult, OnErr, OnOk};
 ghost use Rattle.sw_lang.specs.Learning.{knowing, learned};
 ghost use Rattle.sw_lang.specs.Reading.{Answers, line_at, refused};
 ghost use Rattle.sw_table.specs.Updates.{rows_of};
@@ -15,11 +15,11 @@ ghost use Rattle.sw_spine.specs.History.{CallsBelow, IsLegal, IsSound, all_given
 ghost use Rattle.sw_spine.specs.Receivable.{AreUpdates};
 ghost use Rattle.sw_spine.specs.Rest.{none_open};
 ghost use Rattle.sw_rows.specs.declared.table.TheConstants.{MOST_ROWS};
-ghost use Rattle.sw_spine.specs.Books.{HasAnswered, HasBegun, HasOneMore, IsCount, IsNewSpine, IsNotBegun, IsRefusedBy, KeepsOtherHeads, KeepsOthers, KeepsTaken, Opens, RefusesEntry, RefusesRows, RefusesSession, forgetting, history_of, is_opened, next_for, reply_now, took, untaken, updates, waits_for, with_answered, with_columns, with_open, with_published, with_settled, with_taken};
+ghost use Rattle.sw_spine.specs.Books.{HasAnswered, HasBegun, HasOneMore, IsCount, IsNewSpine, IsNotBegun, IsRefusedBy, KeepsOtherHeads, KeepsOthers, KeepsTaken, Opens, RefusesEntries, RefusesEntry, RefusesRows, RefusesSession, asked, forgetting, history_of, is_opened, next_for, reply_now, told_entry, took, untaken, updates, waits_for, with_all_answered, with_answered, with_columns, with_open, with_published, with_settled, with_taken};
 ghost use Rattle.sw_spine.specs.declared.history.State.TheVariants.{Answered, Void};
 
 use crate::given::Given;
-use crate::history::{Entry, Record, RecordRef, State};
+use crate::history::{Entry, KeptCall, KeptQuery, Record, RecordRef, State};
 use crate::room::make_room;
 use crate::store::Store;
 use std::alloc::{AllocError, Global};
@@ -97,6 +97,21 @@ fn removed(found: bool) -> Reply
         Reply::Removed
     } else {
         Reply::NoSuchKey
+    }
+}
+
+/// Adds the entries of queries that a session was answered, for which there is room.
+fn push_told(entries: &mut Vec<Entry>, session: u64, told: Vec<(KeptQuery, Reply)>)
+    requires { vec_len entries.old + length told.items ≤ vec_capacity entries.old }
+    ensures { entries.new.items ≡ entries.old.items ++ map (told_entry session) told.items }
+{
+    for one in told {
+        let (query, reply) = one;
+        entries.push_reserved(Entry {
+            session,
+            call: query.into_call(),
+            state: State::Answered(reply),
+        });
     }
 }
 
@@ -322,11 +337,12 @@ impl Spine {
     {
         make_room(&mut self.entries, 1, size_of::<Entry>())?;
         let from = self.taken[head];
+        let call = KeptCall::new(*self.entries.allocator(), Call::Select(query))?;
         inbox.extend_from_slice(self.store.since(from))?;
         let place = self.entries.len();
         self.entries.push_reserved(Entry {
             session,
-            call: Call::Select(query),
+            call,
             state: State::Open,
         });
         self.places[(session - 1) as usize] = Some(place);
@@ -380,7 +396,7 @@ impl Spine {
     /// Refused `HistoryFull` where the history has 1,048,576 entries, `NoMemory` otherwise; after a refusal nothing has
     /// changed. The caller's conditions: the session was opened and has no open entry, the query names attributes of the
     /// table, 1 to 8 where it asks for rows, and the reply is the plain table's at the history's end.
-    pub fn answer(&mut self, session: u64, query: Query, reply: Reply) -> Result<(), Refusal>
+    pub fn answer(&mut self, session: u64, query: KeptQuery, reply: Reply) -> Result<(), Refusal>
         requires opened { is_opened session self.old ≡ true }
         requires rest { waits_for session self.old ≡ None }
         requires asks { CallsBelow (length self.old.columns) (Select query) }
@@ -407,7 +423,12 @@ impl Spine {
         }
     }
 
-    fn add_answered(&mut self, session: u64, query: Query, reply: Reply) -> Result<(), AllocError>
+    fn add_answered(
+        &mut self,
+        session: u64,
+        query: KeptQuery,
+        reply: Reply,
+    ) -> Result<(), AllocError>
         requires opened { is_opened session self.old ≡ true }
         requires rest { waits_for session self.old ≡ None }
         requires asks { CallsBelow (length self.old.columns) (Select query) }
@@ -419,9 +440,58 @@ impl Spine {
         make_room(&mut self.entries, 1, size_of::<Entry>())?;
         self.entries.push_reserved(Entry {
             session,
-            call: Call::Select(query),
+            call: query.into_call(),
             state: State::Answered(reply),
         });
+        Ok(())
+    }
+
+    /// Selects whose replies are known stand at the end of the history, one behind the other, answered. No head takes updates
+    /// for them.
+    ///
+    /// Refused `HistoryFull` where the history would have more than 1,048,576 entries, `NoMemory` otherwise; after a refusal
+    /// nothing has changed, and none of them stands. The caller's conditions are those of `answer`, for each.
+    pub fn answer_all(&mut self, session: u64, told: Vec<(KeptQuery, Reply)>) -> Result<(), Refusal>
+        requires opened { is_opened session self.old ≡ true }
+        requires rest { waits_for session self.old ≡ None }
+        requires asks { All (λ t. CallsBelow (length self.old.columns) (Select t.0)) told.items }
+        requires replies { All (λ t. t.1 ≡ reply_now (Select t.0) self.old) told.items }
+        ensures answered { OnOk result (self.new ≡ with_all_answered session told.items self.old) }
+        ensures refused { IfErr result (IsRefusedBy (RefusesEntries (length told.items)) self.old self.new) }
+
+        // What follows of the books.
+        ensures rest { waits_for session self.new ≡ None }
+        ensures mine { OnOk result (mine session self.new.entries ≡ mine session self.old.entries ++ asked told.items) }
+        ensures others { KeepsOthers session self.old self.new }
+        ensures updates { updates self.new ≡ updates self.old }
+        ensures taken { KeepsTaken self.old self.new }
+    {
+        if told.len() > MOST_ENTRIES - self.entries.len() {
+            return Err(Refusal::HistoryFull {
+                entries: MOST_ENTRIES as u64,
+            });
+        }
+        match self.add_all_answered(session, told) {
+            Ok(()) => Ok(()),
+            Err(_) => Err(Refusal::NoMemory),
+        }
+    }
+
+    fn add_all_answered(
+        &mut self,
+        session: u64,
+        told: Vec<(KeptQuery, Reply)>,
+    ) -> Result<(), AllocError>
+        requires opened { is_opened session self.old ≡ true }
+        requires rest { waits_for session self.old ≡ None }
+        requires asks { All (λ t. CallsBelow (length self.old.columns) (Select t.0)) told.items }
+        requires replies { All (λ t. t.1 ≡ reply_now (Select t.0) self.old) told.items }
+        requires room { length self.old.entries + length told.items ≤ MOST_ENTRIES }
+        ensures answered { OnOk result (self.new ≡ with_all_answered session told.items self.old) }
+        ensures refused { OnErr result (self.new ≡ self.old) }
+    {
+        make_room(&mut self.entries, told.len(), size_of::<Entry>())?;
+        push_told(&mut self.entries, session, told);
         Ok(())
     }
 
@@ -522,10 +592,11 @@ impl Spine {
         ensures { MatchResult result (HasAnswered session (Insert cells) self.old self.new) (λ _. self.new ≡ self.old) }
     {
         make_room(&mut self.entries, 1, size_of::<Entry>())?;
+        let call = KeptCall::new(*self.entries.allocator(), Call::Insert(cells))?;
         let given = self.store.insert(cells)?;
         self.entries.push_reserved(Entry {
             session,
-            call: Call::Insert(cells),
+            call,
             state: State::Answered(inserted(given)),
         });
         Ok(inserted(given))
@@ -538,10 +609,11 @@ impl Spine {
         ensures { MatchResult result (HasAnswered session (Delete key) self.old self.new) (λ _. self.new ≡ self.old) }
     {
         make_room(&mut self.entries, 1, size_of::<Entry>())?;
+        let call = KeptCall::new(*self.entries.allocator(), Call::Delete(key))?;
         let found = self.store.delete(key)?;
         self.entries.push_reserved(Entry {
             session,
-            call: Call::Delete(key),
+            call,
             state: State::Answered(removed(found)),
         });
         Ok(removed(found))
@@ -559,10 +631,14 @@ impl Spine {
         // for the prover: there are eight attributes at most
         let _width = self.schema.len();
         make_room(&mut self.entries, 1, size_of::<Entry>())?;
-        let many = self.store.delete_where(conds.as_slice())?;
+        let call = KeptCall::new(*self.entries.allocator(), Call::DeleteWhere(conds))?;
+        let many = match call.get() {
+            Call::DeleteWhere(conds) => self.store.delete_where(conds.as_slice())?,
+            _ => unreachable!(),
+        };
         self.entries.push_reserved(Entry {
             session,
-            call: Call::DeleteWhere(conds),
+            call,
             state: State::Answered(Reply::RemovedMany(many)),
         });
         Ok(Reply::RemovedMany(many))

@@ -84,7 +84,7 @@ impl Beginnings {
 
     /// An entry of the history, which changes rows where it inserted one, removed one, or removed those that met conditions.
     fn add(&mut self, entry: &Entry) -> Result<(), AllocError> {
-        match (&entry.call, &entry.state) {
+        match (entry.call.get(), &entry.state) {
             (Call::Insert(cells), State::Answered(Reply::Inserted(_))) => {
                 self.insert(*cells)?;
                 self.last.updates = self.last.updates.wrapping_add(1);

@@ -107,7 +107,7 @@ fn are_made(
             let Some((call, later)) = rest.split_first() else {
                 return Ok(false);
             };
-            if !is_same_call(alloc, &entry.call, call)? {
+            if !is_same_call(alloc, entry.call.get(), call)? {
                 return Ok(false);
             }
             rest = later;

@@ -130,7 +130,7 @@ fn change(
     let call = call_of(alloc, spine.schema(), line)?;
     let reply = committed(spine, rows, call)?;
     match spine.entries().last() {
-        Some(entry) => write_reply(spine.schema(), &entry.call, &reply, text),
+        Some(entry) => write_reply(spine.schema(), entry.call.get(), &reply, text),
         None => Err(Refusal::Input),
     }
 }
@@ -261,7 +261,7 @@ fn last(spine: &Spine) -> Option<&State> {
 /// Tells the state of an entry.
 fn tell_state(schema: &Schema, entry: &Entry, text: &mut Text) -> Result<(), Refusal> {
     match &entry.state {
-        State::Answered(reply) => write_reply(schema, &entry.call, reply, text),
+        State::Answered(reply) => write_reply(schema, entry.call.get(), reply, text),
         State::Lines(_) => write_all(text, b"lines\n"),
         State::Open => write_all(text, b"open\n"),
         State::Void => write_all(text, b"void\n"),

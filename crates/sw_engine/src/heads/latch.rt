@@ -1,6 +1,6 @@
 //! What lies under a head's latch.
 
-ghost use Rattle.std.specs.Prelude.{ℕ, ◌≡◌, ◌+◌, ◌++◌, [], ◌<◌, ◌≤◌, true, false, IfErr, IfOk, IfSome, IsOkUnless, OnErr, OnOk};
+ghost use Rattle.std.specs.Prelude.{ℕ, ◌≡◌, ◌+◌, ◌++◌, [], ◌<◌, ◌≤◌, true, false, length, map, take, All, IfErr, IfOk, IfSome, IsOkUnless, OnErr, OnOk};
 ghost use Rattle.sw_query.specs.Scan.{AsksBelow, answer};
 ghost use Rattle.sw_table.specs.Updates.{rows_of};
 ghost use Rattle.sw_query.specs.declared.refusal.Refusal.TheVariants.{NoMemory};
@@ -8,7 +8,10 @@ ghost use Rattle.sw_map.specs.Held.{blank};
 ghost use Rattle.sw_set.specs.Needs.{head_in};
 ghost use Rattle.sw_chunks.specs.Heads.{IsSameHead};
 ghost use Rattle.sw_chunks.specs.Routing.{MayFollow};
+ghost use Rattle.sw_query.specs.declared.query.Call.TheVariants.{Select};
+ghost use Rattle.sw_spine.specs.History.{CallsBelow};
 ghost use Rattle.sw_spine.specs.Table.{opened};
+ghost use Rattle.sw_engine.specs.declared.heads.latch.TheConstants.{TOGETHER};
 ghost use Rattle.sw_versions.specs.Rules.{updates_in};
 ghost use Rattle.sw_engine.specs.Desk.{IsSameButBoxes, KeepsBoxes};
 ghost use Rattle.sw_engine.specs.Published.{answer_after};
@@ -21,10 +24,27 @@ use std::marker::{Model, PhantomData};
 use std::thread::Threads;
 use sw_chunks::{Head, Waiting};
 use sw_map::CrackerMap;
-use sw_rows::{PackedRows, Query, Refusal, Reply, Update};
-use sw_spine::Spine;
+use sw_rows::{Call, PackedRows, Query, Refusal, Reply, Update, Want};
+use sw_spine::{KeptQuery, Spine};
 use sw_tie::Share;
 use sw_versions::{Front, Naming};
+
+/// How many calls are answered together at most. By then what a visit of the lock costs is a small part of them. Who wants the head
+/// alone waits for as many.
+pub const TOGETHER: usize = 16;
+
+/// What a call asks, if it is a select that lists no rows.
+pub(crate) fn short_query(call: &Call) -> Option<&Query>
+    ensures { IfSome result (λ q. call.now ≡ Select q.now) }
+{
+    match call {
+        Call::Select(query) => match query.want {
+            Want::Rows(_) => None,
+            _ => Some(query),
+        },
+        _ => None,
+    }
+}
 
 /// The attribute whose head is asked: that of the first condition, or the first attribute.
 pub fn head_of(query: &Query) -> usize
@@ -71,6 +91,30 @@ fn ask_at_rest<M: CrackerMap>(head: &Head<M>, query: &Query) -> Option<Reply>
     }
 }
 
+/// The same twice, with a copy of the query: for the history and for the caller. None too where there is no memory.
+fn ask_twice<M: CrackerMap>(
+    alloc: Global,
+    head: &Head<M>,
+    query: &Query,
+) -> Option<(KeptQuery, Reply, Reply)>
+    requires asks { AsksBelow 8 query.now }
+    ensures asked { IfSome result (λ r. r.0 ≡ query.now) }
+    ensures plain { IfSome result (λ r. r.1 ≡ answer (rows_of head.now.updates) query.now) }
+    ensures same { IfSome result (λ r. r.2 ≡ r.1) }
+{
+    let reply = ask_at_rest(head, query)?;
+    let Ok(copy) = query.copied(alloc) else {
+        return None;
+    };
+    let Ok(asked) = KeptQuery::new(alloc, copy) else {
+        return None;
+    };
+    let Ok(kept) = reply.copied(alloc) else {
+        return None;
+    };
+    Some((asked, kept, reply))
+}
+
 /// The head receives what waits for it. The one refusal is `NoMemory`, and then both are as they were.
 fn receive_all<M: CrackerMap>(head: &mut Head<M>, inbox: &mut Vec<Update>) -> Result<(), Refusal>
     requires may { MayFollow head.old.attribute head.old.updates inbox.old.items }
@@ -89,12 +133,23 @@ fn receive_all<M: CrackerMap>(head: &mut Head<M>, inbox: &mut Vec<Update>) -> Re
 /// receipt of the updates over which it was answered.
 #[derive(Drop)]
 pub struct AtRest<J: Naming> {
-    pub(crate) asked: Query,
+    pub(crate) asked: KeptQuery,
     pub(crate) reply: Reply,
     pub(crate) kept: Reply,
     pub(crate) receipt: Front<J>,
     pub ghost same: { kept ≡ reply },
     pub ghost plain: { reply ≡ answer_after J.limit J.opening (updates_in receipt) asked },
+}
+
+/// What a head answered as it stands, of queries one after the other: each with its reply, for the history, and the replies once
+/// more, for the caller; and a receipt of the updates over which they were answered.
+#[derive(Drop)]
+pub struct AllAtRest<J: Naming> {
+    pub(crate) told: Vec<(KeptQuery, Reply)>,
+    pub(crate) replies: Vec<Reply>,
+    pub(crate) receipt: Front<J>,
+    pub ghost same: { replies.items ≡ map (λ t. t.1) told.items },
+    pub ghost plain: { All (λ t. t.1 ≡ answer_after J.limit J.opening (updates_in receipt) t.0) told.items },
 }
 
 /// A head, once it is made, the boxes that wait for it, and the updates that were taken for it and that it has not
@@ -275,13 +330,10 @@ impl<J: Naming, M: CrackerMap> LatchedHead<J, M> {
         self.counters.count_at_rest(many);
     }
 
-    /// What the head answers as it stands. Nothing but stamps changes, so many may be answered at a time.
-    ///
-    /// None where the head is not made, or waits for a box or an update, or has no receipt of what was taken for it; where
-    /// an area is not ready for the query as it stands, or its attribute is another one; and where there is no memory.
-    pub(crate) fn answer_at_rest(&self, alloc: Global, query: &Query) -> Option<AtRest<J>>
-        requires asks { AsksBelow 8 query.now }
-        ensures asked { IfSome result (λ r. r.asked ≡ query.now) }
+    /// The head, and the receipt of what was taken for it. None where it is not made, or waits for a box or an update, or has no
+    /// receipt of what was taken for it.
+    fn at_rest(&self) -> Option<(&Head<M>, &Front<J>)>
+        ensures { IfSome result (λ r. r.0.now.updates ≡ opened J.opening ++ updates_in r.1.now) }
     {
         let Some(head) = &self.head else {
             return None;
@@ -292,17 +344,79 @@ impl<J: Naming, M: CrackerMap> LatchedHead<J, M> {
         if self.inbox.len() > 0 || self.boxes.len() > 0 {
             return None;
         }
-        let reply = ask_at_rest(head, query)?;
-        let Ok(asked) = query.copied(alloc) else {
-            return None;
-        };
-        let Ok(kept) = reply.copied(alloc) else {
-            return None;
-        };
+        Some((head, receipt))
+    }
+
+    /// What the head answers as it stands. Nothing but stamps changes, so many may be answered at a time.
+    ///
+    /// None where it is not at rest; where an area is not ready for the query as it stands, or its attribute is another one; and
+    /// where there is no memory.
+    pub(crate) fn answer_at_rest(&self, alloc: Global, query: &Query) -> Option<AtRest<J>>
+        requires asks { AsksBelow 8 query.now }
+        ensures asked { IfSome result (λ r. r.asked ≡ query.now) }
+    {
+        let (head, receipt) = self.at_rest()?;
+        let (asked, kept, reply) = ask_twice(alloc, head, query)?;
         Some(AtRest {
             asked,
             reply,
             kept,
+            receipt: receipt.again(),
+        })
+    }
+
+    /// What a head answers as it stands of the first of these calls: up to the first that is no select, or lists rows, or that it
+    /// is not ready for; and of no more than `TOGETHER`. Each query has its reply, and the replies come once more. None where there
+    /// is no memory.
+    fn ask_all(
+        alloc: Global,
+        head: &Head<M>,
+        calls: &[Call],
+    ) -> Option<(Vec<(KeptQuery, Reply)>, Vec<Reply>)>
+        requires width { length J.columns ≤ 8 }
+        requires asks { All (CallsBelow (length J.columns)) calls.now }
+        ensures few { IfSome result (λ r. length r.0.items ≤ length calls.now) }
+        ensures most { IfSome result (λ r. length r.0.items ≤ TOGETHER) }
+        ensures asked { IfSome result (λ r. map (λ t. Select t.0) r.0.items ≡ take (length r.0.items) calls.now) }
+        ensures plain { IfSome result (λ r. All (λ t. t.1 ≡ answer (rows_of head.now.updates) t.0) r.0.items) }
+        ensures same { IfSome result (λ r. r.1.items ≡ map (λ t. t.1) r.0.items) }
+    {
+        let mut told = Vec::new(alloc);
+        let mut replies = Vec::new(alloc);
+        if told.reserve(TOGETHER).is_err() {
+            return None;
+        }
+        if replies.reserve(TOGETHER).is_err() {
+            return None;
+        }
+        let (firsts, _) = calls.split_at(TOGETHER.min(calls.len()));
+        for call in firsts {
+            let Some(query) = short_query(call) else {
+                return Some((told, replies));
+            };
+            let Some((asked, kept, reply)) = ask_twice(alloc, head, query) else {
+                return Some((told, replies));
+            };
+            told.push_reserved((asked, kept));
+            replies.push_reserved(reply);
+        }
+        Some((told, replies))
+    }
+
+    /// What the head answers as it stands of the first of these calls, as far as it does, and as far as they list no rows: of no
+    /// more than `TOGETHER`. None where it is not at rest, or there is no memory.
+    pub(crate) fn answer_all_at_rest(&self, alloc: Global, calls: &[Call]) -> Option<AllAtRest<J>>
+        requires width { length J.columns ≤ 8 }
+        requires asks { All (CallsBelow (length J.columns)) calls.now }
+        ensures few { IfSome result (λ r. length r.told.items ≤ length calls.now) }
+        ensures most { IfSome result (λ r. length r.told.items ≤ TOGETHER) }
+        ensures asked { IfSome result (λ r. map (λ t. Select t.0) r.told.items ≡ take (length r.told.items) calls.now) }
+    {
+        let (head, receipt) = self.at_rest()?;
+        let (told, replies) = LatchedHead::<J, M>::ask_all(alloc, head, calls)?;
+        Some(AllAtRest {
+            told,
+            replies,
             receipt: receipt.again(),
         })
     }

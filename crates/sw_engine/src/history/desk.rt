@@ -5,12 +5,12 @@ ghost use Rattle.sw_query.specs.declared.query.Call.TheVariants.{Select};
 ghost use Rattle.sw_query.specs.declared.refusal.Refusal.TheVariants.{NoMemory};
 ghost use Rattle.sw_spine.specs.Table.{opened, reply_to, updates_then};
 ghost use Rattle.sw_spine.specs.History.{CallsBelow, is_select, mine, updates_after};
-ghost use Rattle.sw_spine.specs.Books.{new_books, updates, waits_for, with_answered, with_published, with_session, with_settled};
+ghost use Rattle.sw_spine.specs.Books.{new_books, asked, updates, waits_for, with_all_answered, with_answered, with_published, with_session, with_settled};
 ghost use Rattle.sw_spine.specs.declared.history.State.TheVariants.{Answered, Void};
 ghost use Rattle.sw_spine.specs.declared.spine.TheConstants.{MOST_SESSIONS};
 ghost use Rattle.sw_engine.specs.Published.{EndsEntry, IsNewShare, IsOfFirst, IsWhole, later, reply_after};
 ghost use Rattle.sw_engine.specs.Own.{IsEnded, IsLastOwn};
-ghost use Rattle.sw_engine.specs.Sessions.{Answers, Begins, Refuses, Sees, Settles, Stays};
+ghost use Rattle.sw_engine.specs.Sessions.{Answers, AnswersAll, Begins, Refuses, Sees, Settles, Stays};
 ghost use Rattle.sw_engine.specs.Desk.{AreGiven, IsBegun, IsMade, IsOf, IsSameButTaken, RefusesNext, TakesPart, latched, new_desk};
 
 use crate::heads::counting::Counters;
@@ -23,7 +23,7 @@ use std::snapshot::Snapshot;
 use sw_chunks::Waiting;
 use sw_map::CrackerMap;
 use sw_rows::{Call, PackedRows, Query, Refusal, Reply, Update};
-use sw_spine::{Entry, MOST_SESSIONS, Spine};
+use sw_spine::{Entry, KeptQuery, MOST_SESSIONS, Spine};
 use sw_tie::{Book, Share};
 use sw_versions::{Naming, Opened};
 
@@ -303,7 +303,7 @@ impl<J: Naming> Desk<J> {
     pub fn answer(
         &mut self,
         session: &mut SessionState<J>,
-        query: Query,
+        query: KeptQuery,
         reply: Reply,
     ) -> Result<(), Refusal>
         requires rest { session.old.waits ≡ None }
@@ -328,6 +328,37 @@ impl<J: Naming> Desk<J> {
         // for the prover: what is published is among the updates
         let _count = spine.published();
         spine.answer(*number, query, reply)?;
+        sessions.set(share, Snapshot::of(spine));
+        Ok(())
+    }
+
+    /// Selects whose replies are known stand answered at the end of the history, one behind the other. No head takes updates for
+    /// them. Refused, nothing has changed.
+    pub fn answer_all(
+        &mut self,
+        session: &mut SessionState<J>,
+        told: Vec<(KeptQuery, Reply)>,
+    ) -> Result<(), Refusal>
+        requires rest { session.old.waits ≡ None }
+        requires asks { All (λ t. CallsBelow (length J.columns) (Select t.0)) told.items }
+        requires replies { All (λ t. t.1 ≡ reply_after J.limit J.opening self.old.books.entries (Select t.0)) told.items }
+        ensures rest { session.new.waits ≡ None }
+        ensures answers { OnOk result (AnswersAll (asked told.items) session.old.shown session.new.shown) }
+        ensures answered { OnOk result (self.new.books ≡ with_all_answered session.old.shown.0 told.items self.old.books) }
+        ensures updates { updates self.new.books ≡ updates self.old.books }
+        ensures kept { OnErr result (self.new.books ≡ self.old.books) }
+        ensures stays { OnErr result (session.new ≡ session.old) }
+    {
+        let Desk {
+            spine,
+            sessions,
+            ..
+        } = self;
+        let SessionState { number, share, .. } = session;
+        sessions.agree(share);
+        // for the prover: what is published is among the updates
+        let _count = spine.published();
+        spine.answer_all(*number, told)?;
         sessions.set(share, Snapshot::of(spine));
         Ok(())
     }

@@ -16,12 +16,12 @@ ghost use Rattle.sw_versions.specs.Rules.{updates_in};
 ghost use Rattle.sw_versions.specs.declared.came.Came.TheVariants.{Missed};
 ghost use Rattle.sw_versions.specs.declared.viewer.TheConstants.{MOST_VIEWERS};
 ghost use Rattle.sw_engine.specs.Own.{IsLastOwn, IsNew};
-ghost use Rattle.sw_engine.specs.Sessions.{Answers, AnswersAll, AnswersIfSome, Begins, IsRefused, Sees, Settles, StandsIfSome, Stays};
+ghost use Rattle.sw_engine.specs.Sessions.{Answers, AnswersAllIfSome, AnswersIfSome, Begins, IsRefused, Sees, Settles, StandIfSome, StandsIfSome, Stays};
 ghost use Rattle.sw_engine.specs.Desk.{AreOut, InOrder, IsBegun, IsMade, IsSameButTaken, RefusesMany, RefusesNext, TakesPart};
-ghost use Rattle.sw_engine.specs.Locked.{IsCommitted, IsPublished, StandAll};
+ghost use Rattle.sw_engine.specs.Locked.{IsCommitted, IsPublished};
 ghost use Rattle.sw_engine.specs.Published.{EndWithEntries, later, new_viewer, no_versions, reply_after, TellsAll, with_viewer};
 
-use crate::heads::latch::{AtRest, LatchedHead};
+use crate::heads::latch::{AllAtRest, AtRest, LatchedHead};
 use crate::heads::opening::Opening;
 use crate::history::desk::Desk;
 use crate::history::ticket::{SessionState, Ticket};
@@ -30,6 +30,7 @@ use std::marker::Model;
 use std::sync::Wait;
 use sw_map::CrackerMap;
 use sw_rows::{Call, PackedRows, Query, Refusal, Reply, Update};
+use sw_spine::KeptQuery;
 use sw_versions::{Book, Came, Draft, Front, Naming, Opened, Shelf, Viewer};
 
 /// A publishing that there was no memory for. Only a visit that came to one makes it.
@@ -228,7 +229,12 @@ impl<J: Naming> LockedDesk<J> {
     }
 
     /// A select whose reply is known stands answered at the desk.
-    fn stand(&mut self, ticket: &mut Ticket<J>, query: Query, reply: Reply) -> Result<(), Refusal>
+    fn stand(
+        &mut self,
+        ticket: &mut Ticket<J>,
+        query: KeptQuery,
+        reply: Reply,
+    ) -> Result<(), Refusal>
         requires asks { CallsBelow (length J.columns) (Select query) }
         requires reply { reply ≡ reply_after J.limit J.opening self.old.desk.books.entries (Select query) }
         ensures answers { OnOk result (Answers (Select query) reply ticket.old ticket.new) }
@@ -277,28 +283,24 @@ impl<J: Naming> LockedDesk<J> {
         Ok(Some(reply))
     }
 
-    /// Selects that were answered over the updates that their receipts have stand answered at the end of the history, one behind
-    /// the other, up to the first for which that may not be; of that one and of those behind it nothing is left. The replies of
-    /// those that stand are given, for which there is room.
-    pub fn answer_all(
-        &mut self,
-        ticket: &mut Ticket<J>,
-        told: Vec<AtRest<J>>,
-        replies: &mut Vec<Reply>,
-    )
-        requires asks { All (λ t. CallsBelow (length J.columns) (Select t.asked)) told.items }
-        requires none { replies.old.items ≡ [] }
-        requires room { length told.items ≤ vec_capacity replies.old }
-        ensures few { length replies.new.items ≤ length told.items }
-        ensures answers { AnswersAll (zip (map (λ t. Select t.asked) told.items) replies.new.items) ticket.old ticket.new }
-        ensures stand { StandAll ticket.old.0 (zip (map (λ t. Select t.asked) told.items) replies.new.items) self.old self.new }
+    /// Selects that were answered over the updates that a receipt has stand answered at the end of the history, one behind the other,
+    /// if these are all updates: then their replies. Otherwise, and where there is no memory or no room in the history, nothing
+    /// changes.
+    pub fn answer_all(&mut self, ticket: &mut Ticket<J>, told: AllAtRest<J>) -> Option<Vec<Reply>>
+        requires asks { All (λ t. CallsBelow (length J.columns) (Select t.0)) told.told.items }
+        ensures answers { AnswersAllIfSome told.told.items ticket.old ticket.new result }
+        ensures answered { StandIfSome ticket.old.0 told.told.items self.old.desk.books self.new.desk.books result }
+        ensures shelf { self.new.shelf ≡ self.old.shelf }
     {
-        for one in told {
-            match self.answer(ticket, one) {
-                Ok(Some(reply)) => replies.push_reserved(reply),
-                Ok(None) => return,
-                Err(_) => return,
-            }
+        let published = self.shelf.published();
+        let current = is_current(&told.receipt, &published, self.desk.later());
+        if !current {
+            return None;
+        }
+        let AllAtRest { told, replies, .. } = told;
+        match self.desk.answer_all(&mut ticket.state, told) {
+            Ok(()) => Some(replies),
+            Err(_) => None,
         }
     }
 

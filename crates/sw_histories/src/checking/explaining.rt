@@ -25,7 +25,7 @@ fn entry_line(
 ) -> Result<String, AllocError>
     ensures { IfOk result (λ text. string_bytes text ≡ entry_line schema.now place entry.now) }
 {
-    let call = call_string(alloc, schema, &entry.call)?;
+    let call = call_string(alloc, schema, entry.call.get())?;
     format!(in alloc;
         "entry {place}, session {}: {}\n",
         entry.session,
@@ -65,7 +65,7 @@ fn parting_of(
 {
     match &entry.state {
         State::Answered(reply) => {
-            let lines = Lines::of_reply(alloc, schema, &entry.call, reply)?;
+            let lines = Lines::of_reply(alloc, schema, entry.call.get(), reply)?;
             parting(alloc, &lines, listed)
         }
         State::Lines(lines) => parting(alloc, lines, listed),
@@ -109,7 +109,7 @@ fn explanation_text(
 {
     let schema = &history.schema;
     let entry = &history.entries[(place - 1) as usize];
-    let lines = Lines::of_reply(alloc, schema, &entry.call, listed)?;
+    let lines = Lines::of_reply(alloc, schema, entry.call.get(), listed)?;
     let named = entry_line(alloc, schema, place, entry)?;
     let parted = parting_of(alloc, schema, entry, &lines)?;
     let more = changes_text(alloc, history, changes)?;

@@ -22,7 +22,7 @@ use serde_json::Value;
 use std::alloc::{AllocError, Global};
 use sw_lang::parse_line;
 use sw_rows::{Call, Refusal, Schema};
-use sw_spine::{Entry, Lines, MOST_SESSIONS, State};
+use sw_spine::{Entry, KeptCall, Lines, MOST_SESSIONS, State};
 
 /// The text of an entry's call, where the entry has just the members of one.
 fn text_of_call<'a>(value: &'a Value) -> Option<&'a str>
@@ -151,11 +151,14 @@ fn read_entry(
         return Err(no_history(line));
     };
     match read_state(alloc, &call, value) {
-        Ok(Some(state)) => Ok(Entry {
-            session,
-            call,
-            state,
-        }),
+        Ok(Some(state)) => match KeptCall::new(alloc, call) {
+            Ok(call) => Ok(Entry {
+                session,
+                call,
+                state,
+            }),
+            Err(_) => Err(Refusal::NoMemory),
+        },
         Ok(None) => Err(no_history(line)),
         Err(_) => Err(Refusal::NoMemory),
     }

@@ -1,4 +1,4 @@
-use Rattle.std.proofs.Common.{◌≡◌, ℕ, map, take, string_bytes}
+use Rattle.std.proofs.Common.{◌≡◌, map, take, string_bytes}
 use Rattle.sw_spine.proofs.apart.part_at.Given as goal
 
 abbrev pub invariant-loop-place : goal.invariant-loop-place

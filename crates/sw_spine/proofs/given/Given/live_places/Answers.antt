@@ -1,8 +1,8 @@
-use Rattle.std.proofs.Common.{◌≡◌, ◌∙◌, ◌≤◌, ◌<◌, ◌++◌, ◌∷◌, [], ap, sym, ℕ, Bool, List, true, false, cond, get_or, length, take, arith}
+use Rattle.std.proofs.Common.{◌∙◌, ◌≤◌, ◌<◌, ◌++◌, ◌∷◌, [], ap, sym, ℕ, Bool, List, cond, get_or, length, take, arith}
 use Rattle.std.proofs.lemmas.List.{append-nil, length-map, take_all}
 use Rattle.sw_table.specs.Kept.{kept}
 use Rattle.sw_table.proofs.LiveLaws.{kept-nil, kept-step}
-use Rattle.sw_spine.specs.Listed.{flags_at, rows_at}
+use Rattle.sw_spine.specs.Listed.{flags_at}
 use Rattle.sw_spine.proofs.given.Given.live_places.Goals as goal
 use Rattle.sw_spine.proofs.given.Given.live_places.Goals.{then-is_live+in_ok-push, else-is_live}
 

@@ -1,6 +1,6 @@
-use Rattle.std.proofs.Common.{◌≡◌, ◌∙◌, ◌+◌, ◌-◌, slice_index_or, ◌<◌, ◌≤◌, ◌++◌, ap, sym, subst, length, ℕ, List, Bool, arith, rules}
+use Rattle.std.proofs.Common.{◌≡◌, ◌∙◌, ◌+◌, ◌-◌, slice_index_or, ◌<◌, ◌≤◌, ◌++◌, ap, sym, subst, length, List, arith, rules}
 use Rattle.sw_table.specs.declared.row.Row.{Row}
-use Rattle.sw_spine.specs.Listed.{Given, IsListed, listed}
+use Rattle.sw_spine.specs.Listed.{Given, listed}
 use Rattle.sw_spine.proofs.ListedLemmas.{listed_early, listed_inside, listed_late, listed_long}
 use Rattle.sw_spine.proofs.given.Given.place.Goals as goal
 

@@ -1,5 +1,4 @@
-use Rattle.std.proofs.Common.{◌≡◌, subst, rules}
-use Rattle.std.specs.Prelude.{IsPermutation}
+use Rattle.std.proofs.Common.{rules}
 use Rattle.sw_spine.proofs.IndexLemmas.{cells-rise-from_sort}
 use Rattle.sw_spine.proofs.index.Index.new.Goals as goal
 

@@ -1,4 +1,4 @@
-use Rattle.std.proofs.Common.{◌≡◌, ap, sym, subst, length, ℕ, ℤ, List, rules}
+use Rattle.std.proofs.Common.{◌≡◌, sym, subst, length}
 use Rattle.sw_table.specs.Live.{Living}
 use Rattle.sw_spine.specs.Indexes.{MeetsMatching}
 use Rattle.sw_spine.proofs.PassLemmas.{meets-matching}

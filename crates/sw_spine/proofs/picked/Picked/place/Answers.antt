@@ -1,4 +1,4 @@
-use Rattle.std.proofs.Common.{◌≡◌, ◌∙◌, ◌+◌, ◌-◌, ◌<◌, ◌≤◌, ap, sym, subst, slice_index_or, length, ℕ, List, arith, rules}
+use Rattle.std.proofs.Common.{◌≡◌, ◌∙◌, ◌+◌, ◌-◌, ◌<◌, ◌≤◌, ap, sym, subst, slice_index_or, length, List, arith, rules}
 use Rattle.sw_table.specs.declared.row.Row.{Row}
 use Rattle.sw_spine.specs.Listed.{Given, listed}
 use Rattle.sw_spine.proofs.ListedLemmas.{listed_early, listed_inside, listed_late, listed_long}

@@ -19,8 +19,9 @@ invariant_of-self-2 c =
     let rest : waits_for c.args.session b ≡ None = ap (waits_for c.args.session) c.self.view_is ∙ c.requires.rest in
     let below : CallsBelow (length s.schema) (DeleteWhere conds) = subst (λ (o : Books). CallsBelow (length o.columns) (DeleteWhere conds)) (sym c.self.view_is) c.requires.below in
     let short : length s.entries.items < 1048576 = subst (λ (o : Books). length o.entries < 1048576) (sym c.self.view_is) c.requires.room in
-    let asked = c.as_slice.ensures in
-    let done = rw asked at c.in_ok-many.ensures in
+    let same : c.in-DeleteWhere.conds ≡ conds = cc (sym c.in-DeleteWhere.is ∙ (c.get.ensures ∙ c.in_ok-call.ensures)) in
+    let asked = c.as_slice.ensures ∙ same in
+    let done = rw asked at c.in_ok-many-in-DeleteWhere.ensures in
     let grown : c.push_reserved.new.self.items ≡ s.entries.items ++ entry c.args.session (DeleteWhere conds) (Answered (reply_to s.store.limit (all_updates s.store) (DeleteWhere conds))) ∷ [] =
-    c.push_reserved.ensures.items ∙ (ap (λ es. es ++ entry c.args.session (DeleteWhere conds) (Answered (RemovedMany c.in_ok-many.many)) ∷ []) c.in_ok-make_room.ensures.items ∙ ap (λ r. s.entries.items ++ entry c.args.session (DeleteWhere conds) (Answered r) ∷ []) done.0) in
+    c.push_reserved.ensures.items ∙ (ap (λ k. c.make_room.new.list.items ++ entry c.args.session k (Answered (RemovedMany c.in_ok-many-in-DeleteWhere.many)) ∷ []) c.in_ok-call.ensures ∙ ap (λ es. es ++ entry c.args.session (DeleteWhere conds) (Answered (RemovedMany c.in_ok-many-in-DeleteWhere.many)) ∷ []) c.in_ok-make_room.ensures.items ∙ ap (λ r. s.entries.items ++ entry c.args.session (DeleteWhere conds) (Answered r) ∷ []) done.0) in
     rw (grown, done.1) (kept_answered s.schema s.store s.entries.items s.taken s.sessions s.published s.places.items c.args.session (DeleteWhere conds) c.self.invariant opened rest below short)

@@ -1,7 +1,7 @@
-use Rattle.std.proofs.Common.{◌≡◌, ◌∙◌, ◌++◌, ap, sym, subst, length, ℕ, Bool, List, rules}
+use Rattle.std.proofs.Common.{◌≡◌, ◌∙◌, ◌++◌, ap, length, Bool, List, rules}
 use Rattle.sw_table.specs.Kept.{kept}
 use Rattle.sw_table.specs.declared.row.Row.{Row}
-use Rattle.sw_spine.specs.Listed.{IsListed, flags_at, listed}
+use Rattle.sw_spine.specs.Listed.{flags_at, listed}
 use Rattle.sw_spine.proofs.ListedLemmas.{listed_tidy}
 use Rattle.sw_spine.proofs.store.Store.tidy.Goals as goal
 
