@@ -24,7 +24,7 @@ pub visited_self : (a : Shown) → Visited a a
 visited_self a = record { number = refl; given = refl; missed = refl; entries = begin_self a.2.entries; published = prefix_self a.2.published }
 
 -- what two visits leave, one after the other, one may leave
-pub visited_trans : (a b d : Shown) → Visited a b → Visited b d → Visited a d
+visited_trans : (a b d : Shown) → Visited a b → Visited b d → Visited a d
 visited_trans a b d first then = record {
   number = then.number ∙ first.number;
   given = then.given ∙ first.given;

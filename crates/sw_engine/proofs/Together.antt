@@ -15,7 +15,7 @@ use Rattle.sw_query.specs.declared.query.Query.{Query}
 use Rattle.sw_query.specs.declared.reply.Reply.{Reply}
 use Rattle.sw_spine.specs.Table.{opened}
 use Rattle.sw_spine.specs.History.{is_select, mine, updates_after}
-use Rattle.sw_spine.specs.Books.{Books, asked, reply_now, told_entry, updates, with_all_answered, with_answered}
+use Rattle.sw_spine.specs.Books.{Books, as_calls, reply_now, told_entry, updates, with_all_answered, with_answered}
 use Rattle.sw_spine.specs.declared.history.Entry.{Entry}
 use Rattle.sw_spine.specs.declared.history.State.TheVariants as state
 use Rattle.sw_spine.proofs.Spines.{told_updates}
@@ -40,7 +40,7 @@ zip_none [] = refl
 zip_none (c ∷ cs) = refl
 
 -- the first calls, which asked these queries, beside the replies to them
-pub zip_told : (told : List (Query × Reply)) (cs : List Call) → map (λ t. Select t.0) told ≡ take (length told) cs → length told ≤ length cs → zip cs (map (λ t. t.1) told) ≡ asked told
+pub zip_told : (told : List (Query × Reply)) (cs : List Call) → map (λ t. Select t.0) told ≡ take (length told) cs → length told ≤ length cs → zip cs (map (λ t. t.1) told) ≡ as_calls told
 zip_told [] cs are few = zip_none cs
 zip_told (t ∷ told) [] are few = absurd (omega (arith, few))
 zip_told (t ∷ told) (c ∷ cs) are few =
@@ -73,22 +73,22 @@ answers_none cs rs s t none same = subst (AnswersAll (zip cs rs) s) (sym same) (
     (record { visited = visited_self s; calls = sym (append-nil s.1); own = sym (append-nil (own_of s)) }))
 
 -- a session's own entries, with those of queries that it was answered
-pub own_told : (s : ℕ) (told : List (Query × Reply)) (es : List Entry) → own s (es ++ map (told_entry s) told) ≡ own s es ++ map (λ m. (m.0, state.Answered m.1)) (asked told)
+pub own_told : (s : ℕ) (told : List (Query × Reply)) (es : List Entry) → own s (es ++ map (told_entry s) told) ≡ own s es ++ map (λ m. (m.0, state.Answered m.1)) (as_calls told)
 own_told s [] es = ap (own s) (append-nil es) ∙ sym (append-nil (own s es))
 own_told s (t ∷ told) es =
     ap (own s) (sym (append_assoc es (told_entry s t ∷ []) (map (told_entry s) told)))
     ∙ own_told s told (es ++ told_entry s t ∷ [])
-    ∙ ap (λ l. l ++ map (λ m. (m.0, state.Answered m.1)) (asked told)) (own_push s es (told_entry s t) refl)
-    ∙ append_assoc (own s es) ((Select t.0, state.Answered t.1) ∷ []) (map (λ m. (m.0, state.Answered m.1)) (asked told))
+    ∙ ap (λ l. l ++ map (λ m. (m.0, state.Answered m.1)) (as_calls told)) (own_push s es (told_entry s t) refl)
+    ∙ append_assoc (own s es) ((Select t.0, state.Answered t.1) ∷ []) (map (λ m. (m.0, state.Answered m.1)) (as_calls told))
 
 -- queries that the spine answers at its end are answered to the session
 pub answers_all_by : (opening : List Row) (n : ℕ) (told : List (Query × Reply)) (s x a v : Books) (rows heads : List (Books × Bool)) (k : ℕ) (receipt : List (List Update)) (missed : ℕ)
-    → IsTied s rows heads → slice_get rows k ≡ Some (a, false) → n ≡ k + 1 → Grows opening a v → x ≡ with_all_answered n told s → mine n x.entries ≡ mine n s.entries ++ asked told → v ≡ x
-    → AnswersAll (asked told) (session_shown opening n a receipt missed) (session_shown opening n v receipt missed)
+    → IsTied s rows heads → slice_get rows k ≡ Some (a, false) → n ≡ k + 1 → Grows opening a v → x ≡ with_all_answered n told s → mine n x.entries ≡ mine n s.entries ++ as_calls told → v ≡ x
+    → AnswersAll (as_calls told) (session_shown opening n a receipt missed) (session_shown opening n v receipt missed)
 answers_all_by opening n told s x a v rows heads k receipt missed tied at is grows done all new = record {
   visited = visited_by opening n a v receipt missed grows;
-  calls = ap (λ (b : Books). mine n b.entries) new ∙ all ∙ ap (λ (l : List (Call × Reply)). l ++ asked told) (mine_is s rows heads k n a tied at is);
-  own = ap (λ (b : Books). own n b.entries) (new ∙ done) ∙ own_told n told s.entries ∙ ap (λ l. l ++ map (λ m. (m.0, state.Answered m.1)) (asked told)) (own_is s rows heads k n a tied at is);
+  calls = ap (λ (b : Books). mine n b.entries) new ∙ all ∙ ap (λ (l : List (Call × Reply)). l ++ as_calls told) (mine_is s rows heads k n a tied at is);
+  own = ap (λ (b : Books). own n b.entries) (new ∙ done) ∙ own_told n told s.entries ∙ ap (λ l. l ++ map (λ m. (m.0, state.Answered m.1)) (as_calls told)) (own_is s rows heads k n a tied at is);
 }
 
 -- ---- what they leave of the spine

@@ -8,7 +8,7 @@ use Rattle.sw_query.specs.declared.query.Call.{Call}
 use Rattle.sw_query.specs.declared.query.Call.TheVariants as call
 use Rattle.sw_query.specs.declared.reply.Reply.{Reply}
 use Rattle.sw_query.specs.declared.refusal.Refusal.{Refusal}
-use Rattle.sw_spine.specs.Books.{Books, asked, waits_for, with_all_answered, with_answered}
+use Rattle.sw_spine.specs.Books.{Books, as_calls, waits_for, with_all_answered, with_answered}
 use Rattle.sw_spine.specs.History.{with_answer}
 use Rattle.sw_spine.specs.declared.history.Entry.{Entry}
 use Rattle.sw_spine.specs.declared.history.State.{State}
@@ -87,12 +87,12 @@ pub record AnswersAll (made : List (Call × Reply)) (old new : Shown) : Type 0 w
 -- queries are answered with these replies, where there are any; else nothing that the session shows changes
 abbrev pub AnswersAllIfSome : {A : Type 0} → List (Query × Reply) → Shown → Shown → Option (Vec Reply A) → Type 0
 AnswersAllIfSome told old new None = new ≡ old
-AnswersAllIfSome told old new (Some replies) = (replies.items ≡ map (λ t. t.1) told) × AnswersAll (asked told) old new
+AnswersAllIfSome told old new (Some replies) = (replies.items ≡ map (λ t. t.1) told) × AnswersAll (as_calls told) old new
 
 -- and they stand answered at the end of the history; else that is as it was
-abbrev pub StandIfSome : {A : Type 0} → ℕ → List (Query × Reply) → Books → Books → Option (Vec Reply A) → Type 0
-StandIfSome session told old new None = new ≡ old
-StandIfSome session told old new (Some _) = new ≡ with_all_answered session told old
+abbrev pub AllStandIfSome : {A : Type 0} → ℕ → List (Query × Reply) → Books → Books → Option (Vec Reply A) → Type 0
+AllStandIfSome session told old new None = new ≡ old
+AllStandIfSome session told old new (Some _) = new ≡ with_all_answered session told old
 
 -- the select is void: its entry is the last of the session's own, and the answered calls stay
 pub record Voids (q : Query) (old new : Shown) : Type 0 where

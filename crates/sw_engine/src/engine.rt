@@ -1,7 +1,7 @@
 //! Heads under their latches, the history under its lock, and the sessions.
 
 ghost use Rattle.std.specs.List.{zip};
-ghost use Rattle.std.specs.Prelude.{◌≡◌, ◌<◌, ◌≤◌, ◌+◌, ◌++◌, ◌∷◌, [], ℕ, true, length, map, take, vec_len, All, IfErr, IfOk, IfSome, IsOk, IsOkUnless, MatchResult, OnErr, OnOk, false};
+ghost use Rattle.std.specs.Prelude.{◌≡◌, ◌<◌, ◌≤◌, ◌+◌, ◌++◌, ◌∷◌, [], ℕ, true, length, map, take, vec_len, All, IfErr, IfOk, IsOk, IsOkUnless, MatchResult, OnErr, OnOk, false};
 ghost use Rattle.sw_query.specs.declared.query.Call.TheVariants.{Select, Insert, Delete, DeleteWhere};
 ghost use Rattle.sw_query.specs.declared.refusal.Refusal.TheVariants.{NoMemory};
 ghost use Rattle.sw_rows.specs.declared.table.TheConstants.{MOST_ROWS};
@@ -493,7 +493,7 @@ impl<J: Naming, M: CrackerMap, L: Latch<LatchedHead<J, M>>> Engine<J, M, L> {
         let Some(head) = self.share(rt, query) else {
             return none;
         };
-        let Some(told) = head.answer_all_at_rest(self.alloc, calls) else {
+        let Some(told) = head.answer_all_at_rest(self.alloc, &self.came, calls) else {
             return none;
         };
         if told.replies.is_empty() {

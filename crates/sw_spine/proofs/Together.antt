@@ -10,18 +10,18 @@ use Rattle.sw_query.specs.declared.query.Query.{Query}
 use Rattle.sw_query.specs.declared.reply.Reply.{Reply}
 use Rattle.sw_spine.specs.Table.{Stored, all_updates, opened, reply_to}
 use Rattle.sw_spine.specs.History.{CallsBelow, entry, mine}
-use Rattle.sw_spine.specs.Books.{Books, IsSpine, KeepsOthers, KeepsTaken, asked, books_of, is_opened, reply_now, told_entry, updates, waits_for, with_all_answered, with_answered}
+use Rattle.sw_spine.specs.Books.{Books, IsSpine, KeepsOthers, KeepsTaken, as_calls, books_of, is_opened, reply_now, told_entry, updates, waits_for, with_all_answered, with_answered}
 use Rattle.sw_spine.specs.declared.history.Entry.{Entry}
 use Rattle.sw_spine.specs.declared.history.State.TheVariants as state
 use Rattle.sw_spine.proofs.Histories.{waiting_push_closed}
 use Rattle.sw_spine.proofs.Spines.{answered_mine, answered_others, answered_rest, kept_told, told_updates}
 
 -- of none, nothing changes
-pub none_answered : (session : ℕ) (b : Books) → with_all_answered session [] b ≡ b
+none_answered : (session : ℕ) (b : Books) → with_all_answered session [] b ≡ b
 none_answered session b = ap (λ es. record b { entries = es }) (append-nil b.entries)
 
 -- the first stands answered by the table, and the others behind it
-pub first_answered : (session : ℕ) (t : Query × Reply) (told : List (Query × Reply)) (b : Books) → t.1 ≡ reply_now (call.Select t.0) b
+first_answered : (session : ℕ) (t : Query × Reply) (told : List (Query × Reply)) (b : Books) → t.1 ≡ reply_now (call.Select t.0) b
     → with_all_answered session (t ∷ told) b ≡ with_all_answered session told (with_answered session (call.Select t.0) b)
 first_answered session t told b is =
     let later = map (told_entry session) told in
@@ -29,7 +29,7 @@ first_answered session t told b is =
     ∙ sym (append_assoc b.entries (entry session (call.Select t.0) (state.Answered (reply_now (call.Select t.0) b)) ∷ []) later))
 
 -- behind it the table replies the same to the others
-pub replies_later : (session : ℕ) (q : Query) (told : List (Query × Reply)) (b : Books) → All (λ t. t.1 ≡ reply_now (call.Select t.0) b) told
+replies_later : (session : ℕ) (q : Query) (told : List (Query × Reply)) (b : Books) → All (λ t. t.1 ≡ reply_now (call.Select t.0) b) told
     → All (λ t. t.1 ≡ reply_now (call.Select t.0) (with_answered session (call.Select q) b)) told
 replies_later session q told b all =
     subst (λ (us : List Update). All (λ t. t.1 ≡ reply_to b.limit us (call.Select t.0)) told) (sym (told_updates session q b)) all
@@ -66,7 +66,7 @@ pub all_told_took : (session : ℕ) (told : List (Query × Reply)) (b : Books) �
 all_told_took session told b all head less = ap (λ (us : List Update). take (slice_index b.taken head) us) (all_told_updates session told b all)
 
 -- and the session has as many answered calls more
-pub all_told_mine : (session : ℕ) (told : List (Query × Reply)) (b : Books) → All (λ t. t.1 ≡ reply_now (call.Select t.0) b) told → mine session (with_all_answered session told b).entries ≡ mine session b.entries ++ asked told
+pub all_told_mine : (session : ℕ) (told : List (Query × Reply)) (b : Books) → All (λ t. t.1 ≡ reply_now (call.Select t.0) b) told → mine session (with_all_answered session told b).entries ≡ mine session b.entries ++ as_calls told
 all_told_mine session [] b all = ap (mine session) (append-nil b.entries) ∙ sym (append-nil (mine session b.entries))
 all_told_mine session (t ∷ told) b all =
     let c = with_answered session (call.Select t.0) b in
@@ -74,8 +74,8 @@ all_told_mine session (t ∷ told) b all =
     let later = replies_later session t.0 told b (All-tail (λ u. u.1 ≡ reply_now (call.Select u.0) b) t told all) in
     ap (λ (x : Books). mine session x.entries) (first_answered session t told b is)
     ∙ all_told_mine session told c later
-    ∙ ap (λ (l : List (Call × Reply)). l ++ asked told) (answered_mine session (call.Select t.0) b ∙ ap (λ r. mine session b.entries ++ (call.Select t.0, r) ∷ []) (sym is))
-    ∙ append_assoc (mine session b.entries) ((call.Select t.0, t.1) ∷ []) (asked told)
+    ∙ ap (λ (l : List (Call × Reply)). l ++ as_calls told) (answered_mine session (call.Select t.0) b ∙ ap (λ r. mine session b.entries ++ (call.Select t.0, r) ∷ []) (sym is))
+    ∙ append_assoc (mine session b.entries) ((call.Select t.0, t.1) ∷ []) (as_calls told)
 
 -- a spine stays one with answered selects
 pub kept_all_told : (columns : List Column) (s : Stored) (taken : List ℕ) (sessions published : ℕ) (places : List (Option ℕ)) (session : ℕ) (told : List (Query × Reply)) (es : List Entry)

@@ -15,7 +15,7 @@ ghost use Rattle.sw_spine.specs.History.{CallsBelow, IsLegal, IsSound, all_given
 ghost use Rattle.sw_spine.specs.Receivable.{AreUpdates};
 ghost use Rattle.sw_spine.specs.Rest.{none_open};
 ghost use Rattle.sw_rows.specs.declared.table.TheConstants.{MOST_ROWS};
-ghost use Rattle.sw_spine.specs.Books.{HasAnswered, HasBegun, HasOneMore, IsCount, IsNewSpine, IsNotBegun, IsRefusedBy, KeepsOtherHeads, KeepsOthers, KeepsTaken, Opens, RefusesEntries, RefusesEntry, RefusesRows, RefusesSession, asked, forgetting, history_of, is_opened, next_for, reply_now, told_entry, took, untaken, updates, waits_for, with_all_answered, with_answered, with_columns, with_open, with_published, with_settled, with_taken};
+ghost use Rattle.sw_spine.specs.Books.{HasAnswered, HasBegun, HasOneMore, IsCount, IsNewSpine, IsNotBegun, IsRefusedBy, KeepsOtherHeads, KeepsOthers, KeepsTaken, Opens, RefusesEntries, RefusesEntry, RefusesRows, RefusesSession, as_calls, forgetting, history_of, is_opened, next_for, reply_now, told_entry, took, untaken, updates, waits_for, with_all_answered, with_answered, with_columns, with_open, with_published, with_settled, with_taken};
 ghost use Rattle.sw_spine.specs.declared.history.State.TheVariants.{Answered, Void};
 
 use crate::given::Given;
@@ -457,11 +457,12 @@ impl Spine {
         requires asks { All (λ t. CallsBelow (length self.old.columns) (Select t.0)) told.items }
         requires replies { All (λ t. t.1 ≡ reply_now (Select t.0) self.old) told.items }
         ensures answered { OnOk result (self.new ≡ with_all_answered session told.items self.old) }
+        ensures room { OnOk result (length self.old.entries + length told.items ≤ MOST_ENTRIES) }
         ensures refused { IfErr result (IsRefusedBy (RefusesEntries (length told.items)) self.old self.new) }
 
         // What follows of the books.
         ensures rest { waits_for session self.new ≡ None }
-        ensures mine { OnOk result (mine session self.new.entries ≡ mine session self.old.entries ++ asked told.items) }
+        ensures mine { OnOk result (mine session self.new.entries ≡ mine session self.old.entries ++ as_calls told.items) }
         ensures others { KeepsOthers session self.old self.new }
         ensures updates { updates self.new ≡ updates self.old }
         ensures taken { KeepsTaken self.old self.new }

@@ -21,6 +21,7 @@ use crate::heads::leading::scan_led;
 use crate::heads::opening::Opening;
 use std::alloc::Global;
 use std::marker::{Model, PhantomData};
+use std::sync::atomic::{AtomicU64, Ordering};
 use std::thread::Threads;
 use sw_chunks::{Head, Waiting};
 use sw_map::CrackerMap;
@@ -91,8 +92,9 @@ fn ask_at_rest<M: CrackerMap>(head: &Head<M>, query: &Query) -> Option<Reply>
     }
 }
 
-/// The same twice, with a copy of the query: for the history and for the caller. None too where there is no memory.
-fn ask_twice<M: CrackerMap>(
+/// What a head answers as it stands, with a copy of the query and one of the reply, for the history. None too where there is no memory
+/// for the copies.
+fn ask_for_both<M: CrackerMap>(
     alloc: Global,
     head: &Head<M>,
     query: &Query,
@@ -145,11 +147,11 @@ pub struct AtRest<J: Naming> {
 /// more, for the caller; and a receipt of the updates over which they were answered.
 #[derive(Drop)]
 pub struct AllAtRest<J: Naming> {
-    pub(crate) told: Vec<(KeptQuery, Reply)>,
+    pub(crate) kept: Vec<(KeptQuery, Reply)>,
     pub(crate) replies: Vec<Reply>,
     pub(crate) receipt: Front<J>,
-    pub ghost same: { replies.items ≡ map (λ t. t.1) told.items },
-    pub ghost plain: { All (λ t. t.1 ≡ answer_after J.limit J.opening (updates_in receipt) t.0) told.items },
+    pub ghost same: { replies.items ≡ map (λ t. t.1) kept.items },
+    pub ghost plain: { All (λ t. t.1 ≡ answer_after J.limit J.opening (updates_in receipt) t.0) kept.items },
 }
 
 /// A head, once it is made, the boxes that wait for it, and the updates that were taken for it and that it has not
@@ -356,7 +358,7 @@ impl<J: Naming, M: CrackerMap> LatchedHead<J, M> {
         ensures asked { IfSome result (λ r. r.asked ≡ query.now) }
     {
         let (head, receipt) = self.at_rest()?;
-        let (asked, kept, reply) = ask_twice(alloc, head, query)?;
+        let (asked, kept, reply) = ask_for_both(alloc, head, query)?;
         Some(AtRest {
             asked,
             reply,
@@ -365,12 +367,15 @@ impl<J: Naming, M: CrackerMap> LatchedHead<J, M> {
         })
     }
 
-    /// What a head answers as it stands of the first of these calls: up to the first that is no select, or lists rows, or that it
-    /// is not ready for; and of no more than `TOGETHER`. Each query has its reply, and the replies come once more. None where there
-    /// is no memory.
+    /// What a head answers as it stands of the first of these calls: up to the first that is no select of that head, or lists rows, or
+    /// that it is not ready for, or for whose copies there is no memory; and of no more than `TOGETHER`. Each query has its reply, and
+    /// the replies come once more. None where there is no memory for the lists, and where more updates came than it `had`, as far as
+    /// commits told.
     fn ask_all(
         alloc: Global,
         head: &Head<M>,
+        had: u64,
+        came: &AtomicU64,
         calls: &[Call],
     ) -> Option<(Vec<(KeptQuery, Reply)>, Vec<Reply>)>
         requires width { length J.columns ≤ 8 }
@@ -381,9 +386,9 @@ impl<J: Naming, M: CrackerMap> LatchedHead<J, M> {
         ensures plain { IfSome result (λ r. All (λ t. t.1 ≡ answer (rows_of head.now.updates) t.0) r.0.items) }
         ensures same { IfSome result (λ r. r.1.items ≡ map (λ t. t.1) r.0.items) }
     {
-        let mut told = Vec::new(alloc);
+        let mut kept = Vec::new(alloc);
         let mut replies = Vec::new(alloc);
-        if told.reserve(TOGETHER).is_err() {
+        if kept.reserve(TOGETHER).is_err() {
             return None;
         }
         if replies.reserve(TOGETHER).is_err() {
@@ -392,30 +397,45 @@ impl<J: Naming, M: CrackerMap> LatchedHead<J, M> {
         let (firsts, _) = calls.split_at(TOGETHER.min(calls.len()));
         for call in firsts {
             let Some(query) = short_query(call) else {
-                return Some((told, replies));
+                return Some((kept, replies));
             };
-            let Some((asked, kept, reply)) = ask_twice(alloc, head, query) else {
-                return Some((told, replies));
+            if came.load(Ordering::SeqCst) > had {
+                return None;
+            }
+            let Some((asked, copy, reply)) = ask_for_both(alloc, head, query) else {
+                return Some((kept, replies));
             };
-            told.push_reserved((asked, kept));
+            kept.push_reserved((asked, copy));
             replies.push_reserved(reply);
         }
-        Some((told, replies))
+        Some((kept, replies))
     }
 
     /// What the head answers as it stands of the first of these calls, as far as it does, and as far as they list no rows: of no
-    /// more than `TOGETHER`. None where it is not at rest, or there is no memory.
-    pub(crate) fn answer_all_at_rest(&self, alloc: Global, calls: &[Call]) -> Option<AllAtRest<J>>
+    /// more than `TOGETHER`. None where it is not at rest, where there is no memory for the lists, and where updates came that it
+    /// lacks, as far as commits told.
+    pub(crate) fn answer_all_at_rest(
+        &self,
+        alloc: Global,
+        came: &AtomicU64,
+        calls: &[Call],
+    ) -> Option<AllAtRest<J>>
         requires width { length J.columns ≤ 8 }
         requires asks { All (CallsBelow (length J.columns)) calls.now }
-        ensures few { IfSome result (λ r. length r.told.items ≤ length calls.now) }
-        ensures most { IfSome result (λ r. length r.told.items ≤ TOGETHER) }
-        ensures asked { IfSome result (λ r. map (λ t. Select t.0) r.told.items ≡ take (length r.told.items) calls.now) }
+        ensures few { IfSome result (λ r. length r.kept.items ≤ length calls.now) }
+        ensures most { IfSome result (λ r. length r.kept.items ≤ TOGETHER) }
+        ensures asked { IfSome result (λ r. map (λ t. Select t.0) r.kept.items ≡ take (length r.kept.items) calls.now) }
     {
         let (head, receipt) = self.at_rest()?;
-        let (told, replies) = LatchedHead::<J, M>::ask_all(alloc, head, calls)?;
+        let (kept, replies) = LatchedHead::<J, M>::ask_all(
+            alloc,
+            head,
+            receipt.len(),
+            came,
+            calls,
+        )?;
         Some(AllAtRest {
-            told,
+            kept,
             replies,
             receipt: receipt.again(),
         })

@@ -5,7 +5,7 @@ ghost use Rattle.sw_query.specs.declared.query.Call.TheVariants.{Select};
 ghost use Rattle.sw_query.specs.declared.refusal.Refusal.TheVariants.{NoMemory};
 ghost use Rattle.sw_spine.specs.Table.{opened, reply_to, updates_then};
 ghost use Rattle.sw_spine.specs.History.{CallsBelow, is_select, mine, updates_after};
-ghost use Rattle.sw_spine.specs.Books.{new_books, asked, updates, waits_for, with_all_answered, with_answered, with_published, with_session, with_settled};
+ghost use Rattle.sw_spine.specs.Books.{RefusesEntries, as_calls, new_books, updates, waits_for, with_all_answered, with_answered, with_published, with_session, with_settled};
 ghost use Rattle.sw_spine.specs.declared.history.State.TheVariants.{Answered, Void};
 ghost use Rattle.sw_spine.specs.declared.spine.TheConstants.{MOST_SESSIONS};
 ghost use Rattle.sw_engine.specs.Published.{EndsEntry, IsNewShare, IsOfFirst, IsWhole, later, reply_after};
@@ -343,11 +343,12 @@ impl<J: Naming> Desk<J> {
         requires asks { All (λ t. CallsBelow (length J.columns) (Select t.0)) told.items }
         requires replies { All (λ t. t.1 ≡ reply_after J.limit J.opening self.old.books.entries (Select t.0)) told.items }
         ensures rest { session.new.waits ≡ None }
-        ensures answers { OnOk result (AnswersAll (asked told.items) session.old.shown session.new.shown) }
+        ensures answers { OnOk result (AnswersAll (as_calls told.items) session.old.shown session.new.shown) }
         ensures answered { OnOk result (self.new.books ≡ with_all_answered session.old.shown.0 told.items self.old.books) }
         ensures updates { updates self.new.books ≡ updates self.old.books }
         ensures kept { OnErr result (self.new.books ≡ self.old.books) }
         ensures stays { OnErr result (session.new ≡ session.old) }
+        ensures refused { IfErr result (RefusesEntries (length told.items) self.old.books) }
     {
         let Desk {
             spine,

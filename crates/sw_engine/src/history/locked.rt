@@ -1,7 +1,6 @@
 //! What lies under the lock: the desk, and the shelf of what viewers read.
 
-ghost use Rattle.std.specs.List.{zip};
-ghost use Rattle.std.specs.Prelude.{◌≡◌, ◌<◌, ◌≤◌, [], false, true, None, is_some, length, map, vec_capacity, All, IfErr, IfOk, IsOkUnless, IsSome, IsSomeAnd, MatchBool, OnErr, OnOk};
+ghost use Rattle.std.specs.Prelude.{◌≡◌, ◌<◌, ◌≤◌, [], false, true, None, is_some, length, All, IfErr, IfOk, IsOkUnless, IsSome, IsSomeAnd, MatchBool, OnErr, OnOk};
 ghost use mathlib.Core.List.{IsPrefix};
 ghost use Rattle.sw_query.specs.declared.query.Call.TheVariants.{Select};
 ghost use Rattle.sw_query.specs.declared.refusal.Refusal.TheVariants.{NoMemory};
@@ -16,7 +15,7 @@ ghost use Rattle.sw_versions.specs.Rules.{updates_in};
 ghost use Rattle.sw_versions.specs.declared.came.Came.TheVariants.{Missed};
 ghost use Rattle.sw_versions.specs.declared.viewer.TheConstants.{MOST_VIEWERS};
 ghost use Rattle.sw_engine.specs.Own.{IsLastOwn, IsNew};
-ghost use Rattle.sw_engine.specs.Sessions.{Answers, AnswersAllIfSome, AnswersIfSome, Begins, IsRefused, Sees, Settles, StandIfSome, StandsIfSome, Stays};
+ghost use Rattle.sw_engine.specs.Sessions.{AllStandIfSome, Answers, AnswersAllIfSome, AnswersIfSome, Begins, IsRefused, Sees, Settles, StandsIfSome, Stays};
 ghost use Rattle.sw_engine.specs.Desk.{AreOut, InOrder, IsBegun, IsMade, IsSameButTaken, RefusesMany, RefusesNext, TakesPart};
 ghost use Rattle.sw_engine.specs.Locked.{IsCommitted, IsPublished};
 ghost use Rattle.sw_engine.specs.Published.{EndWithEntries, later, new_viewer, no_versions, reply_after, TellsAll, with_viewer};
@@ -287,9 +286,9 @@ impl<J: Naming> LockedDesk<J> {
     /// if these are all updates: then their replies. Otherwise, and where there is no memory or no room in the history, nothing
     /// changes.
     pub fn answer_all(&mut self, ticket: &mut Ticket<J>, told: AllAtRest<J>) -> Option<Vec<Reply>>
-        requires asks { All (λ t. CallsBelow (length J.columns) (Select t.0)) told.told.items }
-        ensures answers { AnswersAllIfSome told.told.items ticket.old ticket.new result }
-        ensures answered { StandIfSome ticket.old.0 told.told.items self.old.desk.books self.new.desk.books result }
+        requires asks { All (λ t. CallsBelow (length J.columns) (Select t.0)) told.kept.items }
+        ensures answers { AnswersAllIfSome told.kept.items ticket.old ticket.new result }
+        ensures answered { AllStandIfSome ticket.old.0 told.kept.items self.old.desk.books self.new.desk.books result }
         ensures shelf { self.new.shelf ≡ self.old.shelf }
     {
         let published = self.shelf.published();
@@ -297,8 +296,8 @@ impl<J: Naming> LockedDesk<J> {
         if !current {
             return None;
         }
-        let AllAtRest { told, replies, .. } = told;
-        match self.desk.answer_all(&mut ticket.state, told) {
+        let AllAtRest { kept, replies, .. } = told;
+        match self.desk.answer_all(&mut ticket.state, kept) {
             Ok(()) => Some(replies),
             Err(_) => None,
         }

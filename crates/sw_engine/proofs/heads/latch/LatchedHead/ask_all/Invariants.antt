@@ -7,10 +7,10 @@ use Rattle.sw_engine.proofs.heads.latch.LatchedHead.ask_all.Given as goal
 
 abbrev pub invariant-loop-call : goal.invariant-loop-call
 invariant-loop-call g l = record {
-  each : length l.told.items ≡ l.call-index;
-  room : TOGETHER ≤ vec_capacity l.told;
+  each : length l.kept.items ≡ l.call-index;
+  room : TOGETHER ≤ vec_capacity l.kept;
   also : TOGETHER ≤ vec_capacity l.replies;
-  same : l.replies.items ≡ map (λ t. t.1) l.told.items;
-  plain : All (λ t. t.1 ≡ answer (rows_of l.head.updates) t.0) l.told.items;
-  asked : map (λ t. Select t.0) l.told.items ≡ take (length l.told.items) l.calls;
+  same : l.replies.items ≡ map (λ t. t.1) l.kept.items;
+  plain : All (λ t. t.1 ≡ answer (rows_of l.head.updates) t.0) l.kept.items;
+  asked : map (λ t. Select t.0) l.kept.items ≡ take (length l.kept.items) l.calls;
 }

@@ -1,6 +1,6 @@
 use Rattle.std.proofs.Common.{◌≡◌, ◌≤◌, ℕ, All, length, set, false, None, sym, ap, ◌∙◌, subst}
 use Rattle.sw_query.specs.declared.query.Call.TheVariants.{Select}
-use Rattle.sw_spine.specs.Books.{asked, updates, waits_for}
+use Rattle.sw_spine.specs.Books.{as_calls, updates, waits_for}
 use Rattle.sw_engine.specs.Desk.{DeskState}
 use Rattle.sw_engine.specs.Published.{reply_after, session_shown}
 use Rattle.sw_engine.specs.Sessions.{AnswersAll, Standing}
@@ -67,5 +67,5 @@ returns-clause-answers g c =
     let m : Moves j.limit j.opening t.number s.spine x = moves_told j.limit j.opening t.number c.args.told.items s.spine x c.in_ok-answer_all.ensures.answered known (subst (λ (n : ℕ). n ≤ length (updates s.spine)) c.published-count.ensures.value c.published-count.ensures.count.high) c.self.invariant.ends in
     let new : c.set.new.share.value ≡ x = c.set.ensures.value ∙ c.of.ensures in
     let grows = grows_visited j.sessions j.heads j.columns j.opening j.limit j.most s.spine x s.many s.most s.sessions s.heads t.number h.number h.value c.set.new.share.value c.self.invariant m c.agree.ensures.value new in
-    subst (λ (v : Standing). AnswersAll (asked c.args.told.items) v.shown (session_shown j.opening t.number c.set.new.share.value t.receipt t.misses)) c.session.view_is
+    subst (λ (v : Standing). AnswersAll (as_calls c.args.told.items) v.shown (session_shown j.opening t.number c.set.new.share.value t.receipt t.misses)) c.session.view_is
     (answers_all_by j.opening t.number c.args.told.items s.spine x h.value c.set.new.share.value s.sessions.rows s.heads.rows h.number t.receipt t.misses c.self.invariant.tied c.agree.ensures.value held.1 grows c.in_ok-answer_all.ensures.answered c.in_ok-answer_all.ensures.mine new)
