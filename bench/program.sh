@@ -5,7 +5,7 @@ work=$(mktemp -d "${TMPDIR:-/tmp}/bench.XXXXXX")
 trap 'rm -rf "$work"' EXIT
 program=${PROGRAM:-$top/crates/sideways/out/sideways}
 [ -n "${PROGRAM:-}" ] || "$top/sideways" prove > "$work/build.log" 2>&1 || { tail -n 20 "$work/build.log"; exit 1; }
-export GLIBC_TUNABLES="${GLIBC_TUNABLES-glibc.malloc.hugetlb=1:glibc.malloc.mmap_threshold=1048576:glibc.malloc.top_pad=8388608}" # as `./sideways` has it, for both sides
+export GLIBC_TUNABLES="${GLIBC_TUNABLES-glibc.malloc.hugetlb=1:glibc.malloc.mmap_threshold=1048576:glibc.malloc.top_pad=33554432}" # as `./sideways` has it, for both sides
 
 # Builds the C++ peer as $work/peer.
 peer() {

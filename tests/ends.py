@@ -420,7 +420,7 @@ class Ends:
         shows.write_text('#!/bin/sh\nprintf %s "$GLIBC_TUNABLES"\n')
         others = {name: value for name, value in os.environ.items() if name != "GLIBC_TUNABLES"}
         for name, given, told in (
-                ("no word of the caller's", {}, b"glibc.malloc.hugetlb=1:glibc.malloc.mmap_threshold=1048576:glibc.malloc.top_pad=8388608"),
+                ("no word of the caller's", {}, b"glibc.malloc.hugetlb=1:glibc.malloc.mmap_threshold=1048576:glibc.malloc.top_pad=33554432"),
                 ("an empty one", {"GLIBC_TUNABLES": ""}, b""),
                 ("another one", {"GLIBC_TUNABLES": "glibc.malloc.arena_max=2"}, b"glibc.malloc.arena_max=2")):
             self.held("%s to the C library" % name, (0, told, b""), self.call(self.run, script, env={**others, **given}))

@@ -31,7 +31,7 @@ def runs():
 
 def main():
     program = Path(sys.argv[1]).resolve()
-    os.environ["GLIBC_TUNABLES"] = "glibc.malloc.mmap_threshold=1048576:glibc.malloc.top_pad=8388608"  # as `./sideways` has it, without huge pages
+    os.environ["GLIBC_TUNABLES"] = "glibc.malloc.mmap_threshold=1048576:glibc.malloc.top_pad=33554432"  # as `./sideways` has it, without huge pages
     with tempfile.TemporaryDirectory() as home:
         os.chdir(home)
         for what, table, script, most, more in runs():

@@ -1,6 +1,6 @@
 #!/usr/bin/env python3
-"""Counts that four blocks make in threads, over a head that they share, stand in the history sixteen behind one another, but for the first ones of a
-block: so where the file of the history goes over to another block, that one goes on with a sixteenth call of its own. Made one by one they go over at
+"""Counts that four blocks make in threads, over a head that they share, stand in the history sixteen or more behind one another, but for the first ones
+of a block: so where the file of the history goes over to another block, that one goes on with a sixteenth call of its own. Made one by one they go over at
 any call. A run in which blocks do not come in turns tells nothing; it makes ten at most until one tells, and says where none does.
 Ends with 1 where they are made one by one, where the file is not legal, or where a reply is another one.
 

@@ -2,8 +2,10 @@
 # Times sessions that ask one head, each in a thread of its own (`--threads`), beside one session, and beside one that makes the calls of all: counts (five
 # times CALLS), and sums over a tenth of the rows (a fourth), of RANGES ranges that recur, which soon change nothing any more; and counts of ranges that
 # crack. For each it prints how many times one session's calls a second four sessions make; their time, and that of processors, beside one thread that
-# makes all; and the time of eight sessions beside that of four that make the same calls. Time is from the beginning of the sessions' threads to the end
-# of the last (threads.c), less that of a session beside them, which loads the head and makes one call for each range. All outputs are compared.
+# makes all; the time of eight sessions beside that of four that make the same calls; and, as what the machine gives, the time of four programs that run
+# beside one another, each with one session. Time is from the beginning of the sessions' threads to the end of the last (threads.c), less that of a
+# session beside them, which loads the head and makes one call for each range. A run before or after which the processors are not free (free.c) is made
+# again, up to four times; where at least three of each kind had free ones, these are told once more. All outputs are compared.
 # Usage: bench/run/sessions.sh [ROWS [ROUNDS [CALLS [RANGES]]]]
 set -euo pipefail
 . "$(dirname "$0")/../program.sh"
@@ -12,5 +14,6 @@ rounds=${2:-9}
 calls=${3:-20000}
 ranges=${4:-64}
 python3 "$top/bench/peers/gen.py" "$work" --rows "$rows" --calls 1
+cc -O2 -pthread -o "$work/free" "$top/bench/run/free.c"
 cc -O2 -shared -fPIC -o "$work/threads.so" "$top/bench/run/threads.c" -ldl
 PYTHONDONTWRITEBYTECODE=1 python3 "$top/bench/run/sessions.py" "$program" "$work" "$rounds" "$calls" "$ranges"

@@ -69,6 +69,21 @@ pub calls_left : {A : Type 0} (n m : ℕ) (xs : List A) → n ≡ m → m ≤ le
 calls_left n m xs is few =
     ap (λ i. take (length xs - i) (drop i xs)) is ∙ (ap (λ i. take i (drop m xs)) (sym (length-drop m xs)) ∙ take-length (drop m xs))
 
+-- no more than the first of a list go with these as with all
+pub zip_firsts : {A B : Type 0} (n : ℕ) (xs : List A) (ys : List B) → length ys ≤ length (take n xs) → zip (take n xs) ys ≡ zip xs ys
+zip_firsts zero [] ys few = refl
+zip_firsts (suc n) [] ys few = refl
+zip_firsts zero (x ∷ xs) [] few = refl
+zip_firsts zero (x ∷ xs) (y ∷ ys) few = absurd (omega (arith, few))
+zip_firsts (suc n) (x ∷ xs) [] few = refl
+zip_firsts (suc n) (x ∷ xs) (y ∷ ys) few = ap (λ l. (x, y) ∷ l) (zip_firsts n xs ys (omega (arith, few)))
+
+-- a list is as long as its first ones, or longer
+pub firsts_few : {A : Type 0} (n : ℕ) (xs : List A) → length (take n xs) ≤ length xs
+firsts_few zero xs = omega arith
+firsts_few (suc n) [] = omega arith
+firsts_few (suc n) (x ∷ xs) = let few = firsts_few n xs in omega (arith, few)
+
 -- behind calls that were answered together
 pub made_together : (cs : List Call) (ts : List Told) (rs : List Reply) (old new : Shown) → HasMade old cs ts → length rs ≤ length (drop (length ts) cs)
     → new.1 ≡ old.1 ++ zip (drop (length ts) cs) rs → LeavesAnswered (zip (drop (length ts) cs) rs) old new → HasMade new cs (ts ++ all_told rs)

@@ -1,6 +1,6 @@
 //! Blocks of calls, each made in a thread of its own.
 
-ghost use Rattle.std.specs.Prelude.{◌≡◌, ◌≤◌, ◌<◌, ◌+◌, ◌++◌, length, map, IfOk, IsOkUnless, MatchBool, Ok, vec_capacity, vec_len};
+ghost use Rattle.std.specs.Prelude.{◌≡◌, ◌≤◌, ◌<◌, ◌+◌, ◌++◌, drop, length, map, take, IfOk, IsOkUnless, MatchBool, Ok, vec_capacity, vec_len};
 ghost use Rattle.sw_query.specs.declared.refusal.Refusal.TheVariants.{NoMemory};
 ghost use Rattle.sw_engine.specs.Desk.{AreCounted, InOrder};
 ghost use Rattle.sw_cli.specs.Outcomes.{AllSayWhy, AreTold, blocks_told};
@@ -29,14 +29,18 @@ pub(crate) struct Opened<J: Naming, M: CrackerMap, L: Latch<LatchedHead<J, M>>> 
     pub(crate) tickets: Vec<Ticket<J>>,
 }
 
-/// A session, its block's number from 1 for who looks on, the calls that it is to make, and what came of the first of them, with
-/// room for the others. Contracts see the session, the calls, and what came of them.
+/// How many calls are asked together at first, and behind calls that were not all answered so.
+const FIRST: usize = 16;
+
+/// A session, its block's number from 1 for who looks on, the calls that it is to make, what came of the first of them, with room for
+/// the others, and how many of the next ones are asked together. Contracts see the session, the calls, and what came of them.
 #[derive(Drop)]
 pub(crate) struct Job<'e, J: Naming, M: CrackerMap, L: Latch<LatchedHead<J, M>>> {
     session: Session<'e, J, M, L>,
     block: u64,
     calls: &'e [Call],
     told: Vec<Result<Reply, Refusal>>,
+    together: usize,
 }
 
 impl<'e, J: Naming, M: CrackerMap, L: Latch<LatchedHead<J, M>>> Model for Job<'e, J, M, L> {
@@ -64,6 +68,28 @@ pub(crate) struct Done<J: Naming> {
 struct Since {
     block: u64,
     begun: u64,
+}
+
+/// The next of these calls behind those that were made, at most so many.
+fn next_calls(calls: &[Call], made: usize, most: usize) -> &[Call]
+    requires { made ≤ length calls.now }
+    ensures { result.now ≡ take most (drop made calls.now) }
+{
+    let left = &calls[made..];
+    if left.len() <= most {
+        return left;
+    }
+    let (next, _) = left.split_at(most);
+    next
+}
+
+/// How many calls are asked together next, where so many of `asked` were answered so: twice as many where all were, up to `TOGETHER`.
+/// Else few: updates come, or the head is not ready as it stands, and more would be asked in vain.
+fn next_together(asked: usize, answered: usize) -> usize {
+    if answered < asked {
+        return FIRST;
+    }
+    TOGETHER.min(asked.saturating_mul(2))
 }
 
 /// The next of these calls were answered these replies together. Who looks on is told.
@@ -99,6 +125,7 @@ impl<'e, J: Naming, M: CrackerMap, L: Latch<LatchedHead<J, M>>> Job<'e, J, M, L>
             block,
             calls,
             told,
+            ..
         } = self;
         let call = &calls[told.len()];
         let begun = onlooker.begins(call);
@@ -120,18 +147,21 @@ impl<'e, J: Naming, M: CrackerMap, L: Latch<LatchedHead<J, M>>> Job<'e, J, M, L>
             block,
             calls,
             told,
+            together,
         } = self;
         let since = Since {
             block: *block,
             begun: onlooker.begins(&calls[told.len()]),
         };
-        let replies = session.select_together(rt, &calls[told.len()..]);
+        let asked = next_calls(calls, told.len(), *together);
+        let replies = session.select_together(rt, asked);
+        *together = next_together(*together, replies.len());
         let some = !replies.is_empty();
         add_replies(onlooker, since, calls, told, replies);
         some
     }
 
-    /// Makes the next calls, where any are left: those that are answered together, or else one. Of each `TOGETHER` calls of a block
+    /// Makes the next calls, where any are left: those that are answered together, or else one. Of each `FIRST` calls of a block
     /// the first is tried so, and those behind one that is made by itself are made by themselves: a head that is not ready as it stands
     /// is mostly not ready for the next one either, and to ask it in vain costs time.
     fn make_next<O: Onlooker, R: Threads + Wait + Sync>(&mut self, rt: &R, onlooker: &O)
@@ -142,7 +172,7 @@ impl<'e, J: Naming, M: CrackerMap, L: Latch<LatchedHead<J, M>>> Job<'e, J, M, L>
         if made == self.calls.len() {
             return;
         }
-        if made % TOGETHER == 0 && !onlooker.is_timing() {
+        if made % FIRST == 0 && !onlooker.is_timing() {
             if self.make_together(rt, onlooker) {
                 return;
             }
@@ -195,6 +225,7 @@ fn jobs<'e, J: Naming, M: CrackerMap, L: Latch<LatchedHead<J, M>>>(
             block,
             calls,
             told,
+            together: FIRST,
         })?;
     }
     Ok(jobs)

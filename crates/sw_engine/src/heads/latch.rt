@@ -32,7 +32,7 @@ use sw_versions::{Front, Naming};
 
 /// How many calls are answered together at most. By then what a visit of the lock costs is a small part of them. Who wants the head
 /// alone waits for as many.
-pub const TOGETHER: usize = 16;
+pub const TOGETHER: usize = 64;
 
 /// What a call asks, if it is a select that lists no rows.
 pub(crate) fn short_query(call: &Call) -> Option<&Query>
@@ -388,13 +388,13 @@ impl<J: Naming, M: CrackerMap> LatchedHead<J, M> {
     {
         let mut kept = Vec::new(alloc);
         let mut replies = Vec::new(alloc);
-        if kept.reserve(TOGETHER).is_err() {
-            return None;
-        }
-        if replies.reserve(TOGETHER).is_err() {
-            return None;
-        }
         let (firsts, _) = calls.split_at(TOGETHER.min(calls.len()));
+        if kept.reserve(firsts.len()).is_err() {
+            return None;
+        }
+        if replies.reserve(firsts.len()).is_err() {
+            return None;
+        }
         for call in firsts {
             let Some(query) = short_query(call) else {
                 return Some((kept, replies));
