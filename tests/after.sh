@@ -32,6 +32,7 @@ step python3 "$top/tests/links.py"
 step python3 "$top/tests/lemmas.py"
 step python3 "$top/tests/clauses.py"
 step python3 "$top/tests/drivers.py"
+step python3 "$top/tests/by_tests.py" --texts
 step bash "$top/bench/build.sh"
 step python3 "$top/bench/claims.py" --check
 step python3 "$top/bench/pages.py" --check

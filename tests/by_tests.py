@@ -3,6 +3,7 @@
 run without a proof (`rt try`), and must not tell what the unchanged one does, which is made first.
 
     tests/by_tests.py [NAME..]
+    tests/by_tests.py --texts        looks whether each can be made, and runs none
 
 Ends with 1 where a wrong body passes, where its trial does not end in ten minutes, but for one that waits for ever, which the gate's limit for a
 program refuses, or where the unchanged sources fail. Some two minutes of a processor for each, and for each crate that tells."""
@@ -55,14 +56,14 @@ BODIES = {
     "runs_share_no_head": ("A run whose sessions share heads opens its engine by latches for one thread", "sw_cli/src/running.rt",
                            "make_by::<J, M, SharedLatch<J, M>, O, R>", "make_by::<J, M, AloneLatch<J, M>, O, R>", "shared"),
     "nothing_at_rest": ("No select is answered by a head as it stands, so that each has the head alone", "sw_engine/src/engine.rt",
-                        "if !head.may_have(self.came.load(Ordering::SeqCst)) {", "if !head.may_have(u64::MAX) {", "shared"),
+                        "if head.may_have(self.came.load(Ordering::SeqCst)) {", "if head.may_have(u64::MAX) {", "shared"),
     "one_after_the_other": ("Maps that lack much are stepped one after the other",
                             "sw_set/src/prepare/at_once.rt", "front, many.max(1), &step", "front, 1, &step", "test_areas"),
     "attributes_from_the_last": ("Missing maps are made in the order of the key, then of the attributes from the last on",
                                  "sw_set/src/prepare/making.rt", "ensure_map(area, tails, tails[i], cells)?;",
                                  "ensure_map(area, tails, tails[if i == 0 { 0 } else { tails.len() - i }], cells)?;", "test_areas"),
     "one_refused_stops_all": ("Of maps that are stepped one after the other none is stepped after one that was refused",
-                              "sw_set/src/prepare/at_once.rt", "    thread::for_each_mut(rt, rest, 1, &step);\n",
+                              "sw_set/src/prepare/at_once.rt", "    step_in_turn(attribute, rest, tails, tape);\n",
                               "    for it in rest.iter_mut() {\n        if align_box(attribute, it, tails, tape).is_err() {\n"
                               "            return;\n        }\n    }\n", "test_areas"),
     "asked_a_third_time": ("An area that is short again is asked a third time",
@@ -91,12 +92,13 @@ def copied(folder):
 
 
 def changed(folder, body):
+    """The file of the crates in a folder in which a body is made, and its text then."""
     _, file, old, new, _ = body
     path = folder / "crates" / file
     text = path.read_text()
     if text.count(old) != 1:
         sys.exit(f"by_tests.py: {file} does not have this text once: {old.strip()}")
-    path.write_text(text.replace(old, new))
+    return path, text.replace(old, new)
 
 
 def shell_of(folder, lines):
@@ -126,7 +128,8 @@ def made(crate, places, body=None):
         folder = Path(name)
         copied(folder)
         if body:
-            changed(folder, body)
+            path, text = changed(folder, body)
+            path.write_text(text)
         return tried(folder, crate, places)
 
 
@@ -139,6 +142,11 @@ def right_of(crate, known):
 
 
 def main():
+    if sys.argv[1:] == ["--texts"]:
+        for body in BODIES.values():
+            changed(TOP, body)
+        print(f"by_tests: {len(BODIES)} bodies, 0 that cannot be made")
+        return 0
     failed, known = False, {}
     for name in sys.argv[1:] or list(BODIES):
         body = BODIES[name]

@@ -1,19 +1,21 @@
 #!/usr/bin/env python3
-"""Counts that four blocks make in threads, over a head that they share, stand in the history sixteen or more behind one another, but for the first ones
-of a block: so where the file of the history goes over to another block, that one goes on with a sixteenth call of its own. Made one by one they go over at
-any call. A run in which blocks do not come in turns tells nothing; it makes ten at most until one tells, and says where none does.
-Ends with 1 where they are made one by one, where the file is not legal, or where a reply is another one.
+"""Counts that four blocks make in threads, over a head that they share, stand in the history sixteen behind one another, and soon 64, but for the first
+ones of a block: so where the file of the history goes over to another block, that one goes on with a sixteenth call of its own, and each time with one
+that is as many calls above a multiple of 64. Made one by one they go over at any call. A run in which blocks do not come in turns tells nothing; it makes
+ten at most until one tells, and says where none does.
+Ends with 1 where they are made one by one, or never more than sixteen together, where the file is not legal, or where a reply is another one.
 
     python3 tests/together.py PROGRAM
 """
 import json, subprocess, sys, tempfile
+from collections import Counter
 from pathlib import Path
 
-BLOCKS, CALLS, TOGETHER, FIRST, TRIES, ENOUGH = 4, 40_000, 16, 128, 10, 20
+BLOCKS, CALLS, STRIDE, MOST, SKIPPED, TRIES, ENOUGH = 4, 40_000, 16, 64, 128, 10, 20
 
 
 def places(program, folder):
-    """At which of its calls a block goes on, each time that the history goes over to it, but for its first ones."""
+    """A block, and at which of its calls it goes on, each time that the history goes over to it, but for its first ones."""
     words = ["run", "--table", "t.csv", "--script", "s.txt", "--threads", "--history", "h.json"]
     wrote = subprocess.run([program, *words], cwd=folder, capture_output=True, text=True, check=True).stdout
     reply = f"{sum(k % 97 >= 10 for k in range(1000))}\n"
@@ -24,8 +26,8 @@ def places(program, folder):
     for entry in json.loads((folder / "h.json").read_text())["entries"]:
         session = entry["session"]
         place = made[session] = made.get(session, -1) + 1
-        if session != last and place >= FIRST:
-            yield place
+        if session != last and place >= SKIPPED:
+            yield session, place
         last = session
 
 
@@ -39,13 +41,17 @@ def main():
             found = list(places(program, folder))
             if len(found) >= ENOUGH:
                 break
-    sixteenth = sum(place % TOGETHER == 0 for place in found)
     if len(found) < ENOUGH:
         print("together: the blocks did not come in turns, which tells nothing")
         return
-    print(f"together: {sixteenth} of {len(found)} times a block goes on with a sixteenth call")
+    sixteenth = sum(place % STRIDE == 0 for _, place in found)
+    above = Counter((session, place % MOST) for session, place in found)
+    alike = sum(max(above[session, k] for k in range(MOST)) for session in range(1, BLOCKS + 1))
+    print(f"together: of {len(found)} times a block goes on {sixteenth} times with a sixteenth call, and {alike} times as far above a multiple of {MOST}")
     if sixteenth < 0.9 * len(found):
         sys.exit("together: WRONG: calls in a row are made one by one")
+    if alike < 0.9 * len(found):
+        sys.exit("together: WRONG: never more than sixteen are made together")
 
 
 main()

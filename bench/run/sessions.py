@@ -5,17 +5,24 @@ from typing import NamedTuple
 PROGRAM, FOLDER = sys.argv[1], sys.argv[2]
 ROUNDS, CALLS, RANGES = (int(word) for word in sys.argv[3:6])
 MOST = 1 << 30
-FREE = 1.15  # the slowest processor takes no more times as long as the fastest
-TRIES = 4  # of a run that had no free processors
-FEW = 3  # as many runs on free processors are told apart
+FREE = 1.15  # processors are free where none takes more times as long as one that computed alone
+TRIES = 4  # of a run before or after which they are not
+FEW = 3  # as many runs on free processors are told
 R = random.Random(7)
 
 
+class Phase(NamedTuple):
+    """Of a program, when its sessions' threads began and the last one ended, and the seconds of processors meanwhile."""
+    begun: float
+    ended: float
+    work: float
+
+
 class Ran(NamedTuple):
-    """The seconds from the beginning of the sessions' threads to the end of the last one, those of processors, and whether these were free."""
+    """Of programs that run beside one another the seconds of the longest phase, those of processors, and for which part of it all ran at once."""
     took: float
     work: float
-    free: bool
+    at_once: float
 
 
 def asked(what, width):
@@ -23,38 +30,44 @@ def asked(what, width):
     return f"{what} where a >= {low} and a < {low + int(MOST * width)}"
 
 
-def slowest():
-    """How many times as long as the fastest processor the slowest one takes."""
-    return float(subprocess.run([FOLDER + "/free"], stdout=subprocess.PIPE, check=True).stdout)
+class Processors:
+    """Looks whether processors are free."""
+
+    def __init__(self):
+        self.alone = float("inf")
+
+    def are_free(self):
+        looked = subprocess.run([FOLDER + "/free"], stdout=subprocess.PIPE, check=True).stdout.split()
+        alone, most = map(float, looked)
+        self.alone = min(self.alone, alone)
+        return most < FREE * self.alone
 
 
-def seconds(notes):
-    """From the beginning of the sessions' threads to the end of the last one."""
+def phase(notes):
     with open(notes) as file:
-        notes = [(what, float(when)) for what, when in (line.split() for line in file)]
+        notes = [(what, float(when), float(work)) for what, when, work in (line.split() for line in file)]
     # nothing takes longer between two notes than the reading of the script, behind which the sessions begin
-    _, begun = max((now - before, now) for (_, before), (what, now) in zip(notes, notes[1:]) if what == "+")
-    return notes[-1][1] - begun
+    _, begun, had = max((now - before, now, work) for (_, before, _), (what, now, work) in zip(notes, notes[1:]) if what == "+")
+    _, ended, has = notes[-1]
+    return Phase(begun, ended, has - had)
 
 
 def run(name, programs):
-    """The seconds of the sessions, the longest of so many programs that run beside one another, those of processors, and what each wrote."""
+    """What so many programs took that ran beside one another, and the texts that they wrote."""
     words = [PROGRAM, "run", "--table", FOLDER + "/t.csv", "--script", f"{FOLDER}/{name}.txt", "--threads"]
-    children = []
+    children, texts = [], set()
     for k in range(programs):
         noted = dict(os.environ, LD_PRELOAD=FOLDER + "/threads.so", THREADS_TO=f"{FOLDER}/threads{k}")
         with open(f"{FOLDER}/out{k}", "wb") as out:
             children.append(subprocess.Popen(words, stdout=out, stderr=subprocess.DEVNULL, env=noted))
-    work = 0
-    for child in children:
-        _, status, usage = os.wait4(child.pid, 0)
-        assert os.waitstatus_to_exitcode(status) == 0, (words, status)
-        work += usage.ru_utime + usage.ru_stime
-    texts = set()
-    for k in range(programs):
+    for k, child in enumerate(children):
+        assert child.wait() == 0, words
         with open(f"{FOLDER}/out{k}", "rb") as out:
             texts.add(out.read().replace(b"---\n", b""))
-    return max(seconds(f"{FOLDER}/threads{k}") for k in range(programs)), work, texts
+    phases = [phase(f"{FOLDER}/threads{k}") for k in range(programs)]
+    longest = max(it.ended - it.begun for it in phases)
+    at_once = min(it.ended for it in phases) - max(it.begun for it in phases)
+    return Ran(longest, sum(it.work for it in phases), at_once / longest), texts
 
 
 def write(name, blocks):
@@ -64,12 +77,15 @@ def write(name, blocks):
 
 
 def tell(kind, many, found):
-    took, work = ({name: statistics.median(it[k] for it in runs) for name, runs in found.items()} for k in (0, 1))
-    of = {name: took[name] - took["loads" if name == "apart" else "load"] for name in found}
-    print(f"{kind}: {many} calls of one session {of['one']:.3f} s, of each of four {of['four']:.3f} s, by one thread {of['turn']:.3f} s, of eight the half "
-          f"{of['eight']:.3f} s, of one in each of four programs {of['apart']:.3f} s; calls a second {4 * of['one'] / of['four']:.2f} times one session's, of "
-          f"four programs {4 * of['one'] / of['apart']:.2f}; beside one thread {of['four'] / of['turn']:.2f}, of processors "
-          f"{(work['four'] - work['load']) / (work['turn'] - work['load']):.2f}; eight beside four {of['eight'] / of['four']:.2f}", flush=True)
+    middle = {way: Ran(*map(statistics.median, zip(*runs))) for way, runs in found.items()}
+    load, loads = middle["load"], middle["loads"]
+    one, turn, four, eight = (middle[way].took - load.took for way in ("one", "turn", "four", "eight"))
+    apart = middle["apart"].took - loads.took
+    work = (middle["four"].work - load.work) / (middle["turn"].work - load.work)
+    print(f"{kind}: {many} calls of one session {one:.3f} s, of each of four {four:.3f} s, by one thread {turn:.3f} s, of eight the half {eight:.3f} s; "
+          f"calls a second {4 * one / four:.2f} times one session's; beside one thread {four / turn:.2f}, of processors {work:.2f}; eight beside four "
+          f"{eight / four:.2f}; of one session in each of four programs {apart:.3f} s, {4 * one / apart:.2f} times (all at once for "
+          f"{middle['apart'].at_once:.2f} of it); {min(map(len, found.values()))} runs of each", flush=True)
 
 
 def measure(kind, lines, load):
@@ -80,23 +96,22 @@ def measure(kind, lines, load):
     for name, these in blocks.items():
         write(name, [load, *these])
     ways = {**{name: (name, 1) for name in blocks}, "loads": ("load", 4), "apart": ("one", 4)}
-    found = {way: [] for way in ways}
-    same = {}
+    first, free, same, processors = {way: [] for way in ways}, {way: [] for way in ways}, {}, Processors()
     for _ in range(ROUNDS):
         for way, (name, programs) in ways.items():
-            for _ in range(TRIES):
-                before = slowest()
-                took, work, texts = run(name, programs)
+            for attempt in range(TRIES):
+                before = processors.are_free()
+                ran, texts = run(name, programs)
                 texts |= same.setdefault(name if name in ("load", "one") else "all", texts)
                 assert len(texts) == 1, (kind, way)
-                ran = Ran(took, work, max(before, slowest()) < FREE)
-                if ran.free:
+                if attempt == 0:
+                    first[way].append(ran)
+                if before and processors.are_free():
+                    free[way].append(ran)
                     break
-            found[way].append(ran)
-    tell(kind, many, found)
-    free = {way: [ran for ran in runs if ran.free] for way, runs in found.items()}
+    tell(kind, many, first)
     if min(map(len, free.values())) >= FEW:
-        tell(f"of {sum(map(len, free.values()))} of {ROUNDS * len(ways)} runs, those on free processors, {kind}", many, free)
+        tell("  on free processors", many, free)
 
 
 counts = [asked("count", 0.001) for _ in range(RANGES)]

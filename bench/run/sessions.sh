@@ -4,8 +4,8 @@
 # crack. For each it prints how many times one session's calls a second four sessions make; their time, and that of processors, beside one thread that
 # makes all; the time of eight sessions beside that of four that make the same calls; and, as what the machine gives, the time of four programs that run
 # beside one another, each with one session. Time is from the beginning of the sessions' threads to the end of the last (threads.c), less that of a
-# session beside them, which loads the head and makes one call for each range. A run before or after which the processors are not free (free.c) is made
-# again, up to four times; where at least three of each kind had free ones, these are told once more. All outputs are compared.
+# session beside them, which loads the head and makes one call for each range. Medians are told of all rounds, and once more of runs before and after
+# which the processors were free (free.c): where they were not, a run is made again, up to four times a round. All outputs are compared.
 # Usage: bench/run/sessions.sh [ROWS [ROUNDS [CALLS [RANGES]]]]
 set -euo pipefail
 . "$(dirname "$0")/../program.sh"

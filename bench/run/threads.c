@@ -1,5 +1,6 @@
-/* A library for LD_PRELOAD that notes when threads are begun and end: for each a line in the file THREADS_TO, `+` or `-` and the seconds of the
-   monotonic clock. bench/run/sessions.py times sessions by it, since what a run reads before them takes longer than they do. */
+/* A library for LD_PRELOAD that notes when threads are begun and end: for each a line in the file THREADS_TO, `+` or `-`, the seconds of the monotonic
+   clock, and those of processors that the process has had. bench/run/sessions.py times sessions by it, since what a run reads before them takes longer
+   than they do. */
 #define _GNU_SOURCE
 #include <dlfcn.h>
 #include <fcntl.h>
@@ -13,10 +14,11 @@ struct start { void *(*of)(void *); void *with; };
 
 static void note(char what) {
   static int file = -1;
-  struct timespec now;
+  struct timespec now, work;
   clock_gettime(CLOCK_MONOTONIC, &now);
+  clock_gettime(CLOCK_PROCESS_CPUTIME_ID, &work);
   if (file < 0) file = open(getenv("THREADS_TO"), O_WRONLY | O_CREAT | O_TRUNC, 0600);
-  dprintf(file, "%c %ld.%09ld\n", what, (long)now.tv_sec, now.tv_nsec);
+  dprintf(file, "%c %ld.%09ld %ld.%09ld\n", what, (long)now.tv_sec, now.tv_nsec, (long)work.tv_sec, work.tv_nsec);
 }
 
 static void *run(void *given) {

@@ -44,6 +44,10 @@ WAYS = {
 }
 
 
+# Calls of one session whose head may be shared: as soon as it stands ready, they are answered together.
+IN_A_ROW = {name: lines for name, lines in SCRIPTS.items() if "---" not in lines} | {"counts in a row": ["count where a >= 10 and a <= 15"] * 40}
+
+
 def doubled(lines):
     """A script in which each call is made twice."""
     return "".join(line + "\n" if line == "---" else 2 * (line + "\n") for line in lines).encode()
@@ -140,6 +144,7 @@ def main():
     growths = Growths(given.program)
     for way in WAYS:
         growths.hold(way, [("%s, %s" % (script, way), doubled(SCRIPTS[script]), WAYS[way]) for script in SCRIPTS])
+    growths.hold("threads", [("%s, threads" % script, doubled(lines), ["--threads"]) for script, lines in IN_A_ROW.items()])
     counts = sum(growths.tallies, Counter())
     print("one allocation refused: all of the run %(run)d, one call %(call)d, with %(void)d void entries, the history %(history)d, "
           "none of these %(nothing)d; all from one on refused: %(all)d" % counts)

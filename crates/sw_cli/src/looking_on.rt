@@ -3,8 +3,8 @@
 use sw_rows::{Call, Refusal, Reply};
 
 /// Who looks on while a run makes its calls, in any of its threads. It is told of each call before and after, of those of
-/// a block in their order, and of calls that are answered together that the first begins, and that each has ended. It can touch
-/// neither the calls nor what comes of them. No clause speaks of what it sees.
+/// a block in their order, and of calls that are answered together that the first begins, and that each has ended; where that one was
+/// asked so in vain, once more that it begins. It can touch neither the calls nor what comes of them. No clause speaks of what it sees.
 pub trait Onlooker: Sync {
     /// Whether it asks when each call was made, so that each is made by itself.
     fn is_timing(&self) -> bool;

@@ -3,6 +3,7 @@
 ghost use Rattle.std.specs.Prelude.{◌≡◌, ◌≤◌, ◌<◌, ◌+◌, ◌++◌, drop, length, map, take, IfOk, IsOkUnless, MatchBool, Ok, vec_capacity, vec_len};
 ghost use Rattle.sw_query.specs.declared.refusal.Refusal.TheVariants.{NoMemory};
 ghost use Rattle.sw_engine.specs.Desk.{AreCounted, InOrder};
+ghost use Rattle.sw_engine.specs.declared.heads.latch.TheConstants.{TOGETHER};
 ghost use Rattle.sw_cli.specs.Outcomes.{AllSayWhy, AreTold, blocks_told};
 ghost use Rattle.sw_cli.specs.Run.{IsRecordOf};
 ghost use Rattle.sw_cli.specs.Script.{AreBlocks};
@@ -29,7 +30,8 @@ pub(crate) struct Opened<J: Naming, M: CrackerMap, L: Latch<LatchedHead<J, M>>> 
     pub(crate) tickets: Vec<Ticket<J>>,
 }
 
-/// How many calls are asked together at first, and behind calls that were not all answered so.
+/// How many calls are asked together at first, and behind calls that were not all answered so. `TOGETHER` is a multiple of it: only where
+/// such a multiple of a block's calls is made are the next ones asked together.
 const FIRST: usize = 16;
 
 /// A session, its block's number from 1 for who looks on, the calls that it is to make, what came of the first of them, with room for
@@ -85,7 +87,10 @@ fn next_calls(calls: &[Call], made: usize, most: usize) -> &[Call]
 
 /// How many calls are asked together next, where so many of `asked` were answered so: twice as many where all were, up to `TOGETHER`.
 /// Else few: updates come, or the head is not ready as it stands, and more would be asked in vain.
-fn next_together(asked: usize, answered: usize) -> usize {
+fn next_together(asked: usize, answered: usize) -> usize
+    ensures most { result ≤ TOGETHER }
+    ensures some { 0 < asked → 0 < result }
+{
     if answered < asked {
         return FIRST;
     }

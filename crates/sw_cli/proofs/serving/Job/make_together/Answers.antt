@@ -1,4 +1,4 @@
-use Rattle.std.proofs.Common.{rules, ◌≡◌, ◌≤◌, ◌++◌, List, drop, take, length, subst, ◌∙◌, ap, sym}
+use Rattle.std.proofs.Common.{rules, arith, ◌≡◌, ◌≤◌, ◌++◌, List, drop, take, length, subst, ◌∙◌, ap}
 use Rattle.std.specs.List.{zip}
 use Rattle.sw_query.specs.declared.query.Call.{Call}
 use Rattle.sw_engine.specs.Own.{LeavesAnswered}
