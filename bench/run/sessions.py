@@ -1,12 +1,13 @@
-"""sessions.py PROGRAM FOLDER ROUNDS CALLS RANGES: what sessions.sh measures, over the table FOLDER/t.csv."""
+"""sessions.py PROGRAM FOLDER ROUNDS CALLS RANGES [KIND]: what sessions.sh measures, over the table FOLDER/t.csv."""
 import os, random, statistics, subprocess, sys
 from typing import NamedTuple
 
 PROGRAM, FOLDER = sys.argv[1], sys.argv[2]
 ROUNDS, CALLS, RANGES = (int(word) for word in sys.argv[3:6])
+KIND = sys.argv[6] if len(sys.argv) > 6 else ""
 MOST = 1 << 30
 FREE = 1.15  # processors are free where none takes more times as long as one that computed alone
-TRIES = 4  # of a run before or after which they are not
+TRIES = 8  # of a run before or after which they are not
 FEW = 3  # as many runs on free processors are told
 R = random.Random(7)
 
@@ -116,6 +117,9 @@ def measure(kind, lines, load):
 
 counts = [asked("count", 0.001) for _ in range(RANGES)]
 sums = [asked("sum b", 0.1) for _ in range(RANGES)]
-measure("counts of ranges that recur", [R.choice(counts) for _ in range(20 * CALLS)], counts)
-measure("sums of ranges that recur", [R.choice(sums) for _ in range(CALLS)], sums)
-measure("counts of ranges that crack", [asked("count", 0.001) for _ in range(4 * CALLS)], counts)
+kinds = {"counts of ranges that recur": ([R.choice(counts) for _ in range(20 * CALLS)], counts),
+         "sums of ranges that recur": ([R.choice(sums) for _ in range(CALLS)], sums),
+         "counts of ranges that crack": ([asked("count", 0.001) for _ in range(4 * CALLS)], counts)}
+for kind, (lines, load) in kinds.items():
+    if KIND in kind:
+        measure(kind, lines, load)
