@@ -45,7 +45,8 @@ WAYS = {
 
 
 # Calls of one session whose head may be shared: as soon as it stands ready, they are answered together.
-IN_A_ROW = {name: lines for name, lines in SCRIPTS.items() if "---" not in lines} | {"counts in a row": ["count where a >= 10 and a <= 15"] * 40}
+IN_A_ROW = {name: SCRIPTS[name] for name in ("a second tail", "a row that comes", "other heads")}
+IN_A_ROW["counts in a row"] = ["count where a >= 10 and a <= 15"] * 40
 
 
 def doubled(lines):
