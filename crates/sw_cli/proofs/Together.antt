@@ -1,7 +1,6 @@
 -- Calls that were answered together, beside what came of those before.
-use Rattle.std.proofs.Common.{rules, ◌≡◌, inl, inr, ◌∙◌, ◌<◌, ◌≤◌, ◌+◌, ◌++◌, ◌∷◌, ℕ, zero, suc, List, [], length, map, drop, take, ◌-◌, get_or, refl, sym, ap, subst, arith, append_assoc, All, Ok, Err}
+use Rattle.std.proofs.Common.{rules, ◌≡◌, inl, inr, ◌∙◌, ◌<◌, ◌≤◌, ◌+◌, ◌++◌, ◌∷◌, ℕ, zero, suc, List, [], length, map, drop, take, get_or, refl, sym, ap, subst, arith, append_assoc, All, Ok, Err}
 use Rattle.std.specs.List.{zip}
-use Rattle.std.proofs.Math.Seq.{take-length}
 use Rattle.std.specs.Prelude.{IfOk, OnErr}
 use Rattle.std.proofs.lemmas.List.{length-append, length-drop, length-map}
 use Rattle.std.proofs.lemmas.List.Elements.{All-append, All-map, All-push}
@@ -64,11 +63,6 @@ left_all (c ∷ cs) (r ∷ rs) = ((c, state.Answered r) ∷ [], map (λ m. (m.0,
 
 -- ---- what a session made
 
--- the calls that are left, as a slice of all
-pub calls_left : {A : Type 0} (n m : ℕ) (xs : List A) → n ≡ m → m ≤ length xs → take (length xs - n) (drop n xs) ≡ drop m xs
-calls_left n m xs is few =
-    ap (λ i. take (length xs - i) (drop i xs)) is ∙ (ap (λ i. take i (drop m xs)) (sym (length-drop m xs)) ∙ take-length (drop m xs))
-
 -- no more than the first of a list go with these as with all
 pub zip_firsts : {A B : Type 0} (n : ℕ) (xs : List A) (ys : List B) → length ys ≤ length (take n xs) → zip (take n xs) ys ≡ zip xs ys
 zip_firsts zero [] ys few = refl
@@ -77,12 +71,6 @@ zip_firsts zero (x ∷ xs) [] few = refl
 zip_firsts zero (x ∷ xs) (y ∷ ys) few = absurd (omega (arith, few))
 zip_firsts (suc n) (x ∷ xs) [] few = refl
 zip_firsts (suc n) (x ∷ xs) (y ∷ ys) few = ap (λ l. (x, y) ∷ l) (zip_firsts n xs ys (omega (arith, few)))
-
--- a list is as long as its first ones, or longer
-pub firsts_few : {A : Type 0} (n : ℕ) (xs : List A) → length (take n xs) ≤ length xs
-firsts_few zero xs = omega arith
-firsts_few (suc n) [] = omega arith
-firsts_few (suc n) (x ∷ xs) = let few = firsts_few n xs in omega (arith, few)
 
 -- behind calls that were answered together
 pub made_together : (cs : List Call) (ts : List Told) (rs : List Reply) (old new : Shown) → HasMade old cs ts → length rs ≤ length (drop (length ts) cs)

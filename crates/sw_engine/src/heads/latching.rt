@@ -1,7 +1,7 @@
 //! How heads lie under latches: each for one thread at a time, or shared by those that change nothing.
 
 use crate::heads::latch::LatchedHead;
-use crate::pausing::{NAPS, PAUSES, rest};
+use crate::pausing::{NAPS, PAUSES, rest_at_latch};
 use std::sync::{Mutex, MutexGuard, RwLock, RwLockReadGuard, RwLockWriteGuard, Wait};
 
 /// What one thread has alone.
@@ -52,7 +52,7 @@ impl<T: Drop> Latch<T> for Mutex<T> {
             if let Some(guard) = self.try_lock() {
                 return Alone::Locked(guard);
             }
-            rest(rt, look);
+            rest_at_latch(rt, look);
         }
         Alone::Locked(self.lock(rt))
     }
@@ -72,7 +72,7 @@ impl<T: Drop> Latch<T> for RwLock<T> {
             if let Some(guard) = self.try_write() {
                 return Alone::Written(guard);
             }
-            rest(rt, look);
+            rest_at_latch(rt, look);
         }
         Alone::Written(self.write(rt))
     }
@@ -82,7 +82,7 @@ impl<T: Drop> Latch<T> for RwLock<T> {
             if let Some(guard) = self.try_read() {
                 return Some(guard);
             }
-            rest(rt, look);
+            rest_at_latch(rt, look);
         }
         None
     }

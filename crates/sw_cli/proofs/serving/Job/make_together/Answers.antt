@@ -1,8 +1,9 @@
 use Rattle.std.proofs.Common.{rules, arith, ◌≡◌, ◌≤◌, ◌++◌, List, drop, take, length, subst, ◌∙◌, ap}
+use Rattle.std.proofs.lemmas.List.{length-take}
 use Rattle.std.specs.List.{zip}
 use Rattle.sw_query.specs.declared.query.Call.{Call}
 use Rattle.sw_engine.specs.Own.{LeavesAnswered}
-use Rattle.sw_cli.proofs.Together.{firsts_few, made_together, zip_firsts}
+use Rattle.sw_cli.proofs.Together.{made_together, zip_firsts}
 use Rattle.sw_cli.proofs.serving.Job.make_together.Goals as goal
 
 pub invariant_of-self : goal.invariant_of-self
@@ -17,7 +18,7 @@ invariant_of-self g c =
     let told = c.select_together-replies.ensures in
     let firsts : c.next_calls-asked.result.now ≡ take n (drop (length ts) cs) = search rules in
     let few : length rs ≤ length (take n (drop (length ts) cs)) = subst (λ (l : List Call). length rs ≤ length l) firsts told.few in
-    let few_of_all : length rs ≤ length (drop (length ts) cs) = let most = firsts_few n (drop (length ts) cs) in omega (arith, few, most) in
+    let few_of_all : length rs ≤ length (drop (length ts) cs) = omega (arith, few, length-take n (drop (length ts) cs)) in
     let same = ap (λ (l : List Call). zip l rs) firsts ∙ zip_firsts n (drop (length ts) cs) rs few in
     let mine : new.1 ≡ old.1 ++ zip (drop (length ts) cs) rs = told.mine ∙ ap (λ l. old.1 ++ l) same in
     let own : LeavesAnswered (zip (drop (length ts) cs) rs) old new = subst (λ l. LeavesAnswered l old new) same told.own in
