@@ -50,18 +50,43 @@ side_in Tail m = tails_in m
 abbrev pub shown_rows : ℕ → List (Step Row) → List Row
 shown_rows head tape = joined (rows_by head tape)
 
--- those from one place up to below another
-abbrev pub range_rows : ℕ → List (Step Row) → ℕ → ℕ → List Row
-range_rows head tape from upto = slice_range (shown_rows head tape) from upto
-
 -- boxes that are lawful, of which one has the keys at the tape's end
 pub record AreStocked (head : ℕ) (tape : List (Step Row)) (ms : List Held) : Type 0 where
   pub lawful : All (IsLawful head tape) ms
   pub keys : Any (IsReady Key tape) ms
 
+-- a range of the places that maps of a head show at a tape's end: from one place up to below another
+pub record RangeState : Type 0 where
+  pub head : ℕ
+  pub tape : List (Step Row)
+  pub maps : List Held
+  pub from : ℕ
+  pub upto : ℕ
+
+abbrev pub range_over : ℕ → List (Step Row) → List Held → ℕ → ℕ → RangeState
+range_over head tape maps from upto = record { head = head; tape = tape; maps = maps; from = from; upto = upto }
+
+-- the rows at its places
+abbrev pub range_rows : RangeState → List Row
+range_rows r = slice_range (shown_rows r.head r.tape) r.from r.upto
+
+-- one of the maps has the keys, and they have so many places
+pub record IsShown (r : RangeState) : Type 0 where
+  pub stocked : AreStocked r.head r.tape r.maps
+  pub ordered : r.from ≤ r.upto
+  pub within : r.upto ≤ length (shown_rows r.head r.tape)
+
+-- its rows are those that meet the first condition
+abbrev pub IsRangeOf : List Cond → RangeState → Type 0
+IsRangeOf conds r = IsRun (meets_first conds) (shown_rows r.head r.tape) r.from r.upto
+
 -- the cells of an attribute are there: it is the head, or one of the boxes has them at the tape's end
 abbrev pub HasCells : ℕ → List (Step Row) → List Held → ℕ → Type 0
 HasCells head tape ms b = b ≢ head → Any (IsReady (Cell b) tape) ms
+
+-- the same of a range
+abbrev pub ShowsCells : RangeState → ℕ → Type 0
+ShowsCells r b = HasCells r.head r.tape r.maps b
 
 -- the value of a column at a place
 abbrev pub value_in : List Held → Column → ℕ → ℤ
@@ -160,6 +185,10 @@ HasWanted head tape ms want.Count = Unit {0}
 HasWanted head tape ms (want.Sum a) = HasCells head tape ms a
 HasWanted head tape ms (want.Min a) = HasCells head tape ms a
 HasWanted head tape ms (want.Max a) = HasCells head tape ms a
+
+-- the same of a range
+abbrev pub ShowsWanted : RangeState → Want → Type 0
+ShowsWanted r w = HasWanted r.head r.tape r.maps w
 
 -- ---- the least and the greatest
 

@@ -1,4 +1,4 @@
--- Codes of an area, its boxes and its inbox: a model whose value one is names it.
+-- Codes of an area, its boxes and its inbox, and of a range: a model whose value one is names it.
 use Rattle.std.specs.Prelude.{◌≡◌, ℕ, ℤ, List, Option, ◌⊎◌, refl}
 use mathlib.Core.Logic.{inl, inr}
 use Rattle.std.specs.Coded.{Coded, code_by, coded×, coded⊎, coded_list, coded_option, coded_ℕ, coded_ℤ}
@@ -11,6 +11,7 @@ use Rattle.sw_kernel.specs.Codes.{sided, unsided}
 use Rattle.sw_kernel.specs.Replay.{Step, loaded, inserted, removed, ranged}
 use Rattle.sw_map.specs.Held.{Held}
 use Rattle.sw_map.specs.Codes.{held_code}
+use Rattle.sw_set.specs.Choice.{RangeState}
 use Rattle.sw_set.specs.Inbox.{Waiting}
 use Rattle.sw_set.specs.Shelf.{AreaState}
 
@@ -105,4 +106,16 @@ area_code =
       tape = p.1.1.0;
       boxes = p.1.1.1;
     })
+    (λ _. refl)
+
+-- a code of a range that maps show
+abbrev pub RangeParts : Type 0
+RangeParts = (ℕ × (ℕ × ℕ)) × (List (Step Row) × List Held)
+
+abbrev pub range_code : Coded RangeState
+range_code =
+    code_by RangeParts
+    (coded× (coded× coded_ℕ (coded× coded_ℕ coded_ℕ)) (coded× (coded_list step_code) boxes_code))
+    (λ r. ((r.head, (r.from, r.upto)), (r.tape, r.maps)))
+    (λ p. record { head = p.0.0; tape = p.1.0; maps = p.1.1; from = p.0.1.0; upto = p.0.1.1 })
     (λ _. refl)

@@ -11,9 +11,8 @@ use Rattle.sw_query.specs.declared.reply.Reply.TheVariants as reply
 use Rattle.sw_query.specs.declared.reply.ReplyRow.{ReplyRow}
 use Rattle.sw_table.specs.declared.row.Row.{Row}
 use Rattle.sw_query.specs.Scan.{answer, answer_over, meets_all, projected}
-use Rattle.sw_kernel.specs.Replay.{Step}
 use Rattle.sw_kernel.specs.Tapes.{HoldsOnce}
-use Rattle.sw_set.specs.Choice.{AreOf, chosen, further, range_rows}
+use Rattle.sw_set.specs.Choice.{AreOf, RangeState, chosen, further, range_rows}
 use Rattle.sw_set.specs.Shelf.{Rises, key_of}
 
 -- the truth values are those of the conditions after the first
@@ -21,8 +20,8 @@ abbrev pub AreOfFurther : List Cond → List Row → Option (List Bool) → Type
 AreOfFurther conds rows bits = AreOf (meets_all (further conds)) rows bits
 
 -- the rows of a range that truth values choose
-abbrev pub chosen_rows : ℕ → List (Step Row) → ℕ → ℕ → Option (List Bool) → List Row
-chosen_rows head tape from upto bits = chosen bits (range_rows head tape from upto)
+abbrev pub chosen_rows : RangeState → Option (List Bool) → List Row
+chosen_rows r bits = chosen bits (range_rows r)
 
 -- these rows of a reply, by keys that do not fall
 pub record AreInKeyOrder (xs ys : List ReplyRow) : Type 0 where

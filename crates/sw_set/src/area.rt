@@ -38,7 +38,7 @@ use crate::area::inbox::Inbox;
 use crate::area::live::LiveRows;
 use crate::area::ready::Ready;
 use crate::merge::position::place_of_row;
-use crate::reply::collect_from;
+use crate::reply::{ShownRange, nothing};
 use std::alloc::Global;
 use std::marker::Model;
 use sw_map::{CrackerMap, Tail};
@@ -588,15 +588,17 @@ impl<M: CrackerMap> Area<M> {
         ensures scalars { (TakesMemory query.now.want → ⊥) → length query.now.conds ≤ 1 → IsOk result }
     {
         self.known();
-        collect_from(
-            self.alloc,
+        if ready.from == ready.upto {
+            return Ok(nothing(self.alloc, &query.want));
+        }
+        let range = ShownRange::new(
             self.boxes.as_slice(),
             self.attribute,
             &self.tape,
             ready.from,
             ready.upto,
-            query,
-        )
+        );
+        range.collect(self.alloc, query)
     }
 
     /// Aligns by a function every box that has a map of the tails: it stands at the tape's end then.

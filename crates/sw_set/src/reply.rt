@@ -1,13 +1,12 @@
 //! The answer of a query from boxes that stand at the tape's end.
 
-ghost use Rattle.std.specs.Prelude.{◌≡◌, ◌<◌, ◌≤◌, [], map, length, All, IsOk, IsOkUnless};
+ghost use Rattle.std.specs.Prelude.{◌≡◌, ◌<◌, ◌≤◌, [], map, length, pos, All, IsOk, IsOkUnless};
 ghost use Rattle.sw_query.specs.declared.refusal.Refusal.TheVariants.{NoMemory};
 ghost use Rattle.sw_query.specs.Scan.{AsksBelow, CondsBelow, WantsBelow, TakesMemory, answer_over, column, greatest, least, meets_all, total};
-ghost use Rattle.sw_map.specs.Lawful.{IsLawful};
 ghost use Rattle.sw_set.specs.Needs.{head_in, needed};
 ghost use Rattle.sw_query.specs.Outcomes.{MemoryAside};
 ghost use Rattle.sw_set.specs.Prepared.{StandReady};
-ghost use Rattle.sw_set.specs.Choice.{AreFor, AreStocked, HasCells, HasWanted, IsRun, meets_first, range_rows, shown_rows};
+ghost use Rattle.sw_set.specs.Choice.{AreFor, AreStocked, IsRangeOf, ShowsCells, ShowsWanted, range_over, range_rows, shown_rows};
 ghost use Rattle.sw_set.specs.Collected.{AnswersInOrder, AreOfFurther, IsListOf, IsReplyOver, chosen_rows};
 
 pub(crate) mod choice;
@@ -17,203 +16,202 @@ pub(crate) mod totals;
 pub(crate) mod window;
 
 use crate::reply::choice::{Choice, refine_by};
-use crate::reply::finding::{columns_of, window_of_cells, window_of_keys};
+use crate::reply::finding::{column_of, columns_of, find_ready};
 use crate::reply::replies::{found_keys, rows_at, sort_by_key};
 use crate::reply::totals::{max, min, sum};
+use crate::reply::window::{Side, Window};
 use std::alloc::Global;
+use std::marker::Model;
 use sw_bits::Bits;
-use sw_map::CrackerMap;
+use sw_map::{CrackerMap, Tail};
 use sw_query::{Cond, Query, Refusal, Reply, ReplyRows, Want};
 use sw_tape::Tape;
 
-/// Which rows of a range meet some conditions.
-fn refined<M: CrackerMap>(
-    alloc: Global,
-    boxes: &[M],
+/// A range of the places of maps that stand at the tape's end, one of which has the keys: from one place up to below another.
+/// Contracts see what it shows.
+#[derive(Drop)]
+pub(crate) struct ShownRange<'a, M: CrackerMap> {
+    boxes: &'a [M],
     head: u8,
-    tape: &Tape,
+    tape: &'a Tape,
     from: usize,
     upto: usize,
-    conds: &[Cond],
-) -> Result<Bits, Refusal>
-    requires few { CondsBelow 8 conds.now }
-    requires stocked { AreStocked head tape.now (map M.held boxes.now) }
-    requires cells { All (λ c. HasCells head tape.now (map M.held boxes.now) c.attr) conds.now }
-    requires ordered { from ≤ upto }
-    requires within { upto ≤ length (shown_rows head tape.now) }
-    ensures { MemoryAside result (λ bits. bits ≡ map (meets_all conds.now) (range_rows head tape.now from upto)) }
-{
-    let mut bits = Bits::all(alloc, upto - from)?;
-    for cond in conds {
-        let mut cells = window_of_cells(boxes, head, tape, cond.attr, from, upto);
-        refine_by(&mut bits, &mut cells, cond);
-    }
-    Ok(bits)
 }
 
-/// Which rows of a range meet the conditions after the first. It takes no memory where there is one condition at most.
-fn choose<M: CrackerMap>(
-    alloc: Global,
-    boxes: &[M],
-    head: u8,
-    tape: &Tape,
-    from: usize,
-    upto: usize,
-    conds: &[Cond],
-) -> Result<Choice, Refusal>
-    requires few { CondsBelow 8 conds.now }
-    requires stocked { AreStocked head tape.now (map M.held boxes.now) }
-    requires cells { All (λ c. HasCells head tape.now (map M.held boxes.now) c.attr) conds.now }
-    requires ordered { from ≤ upto }
-    requires within { upto ≤ length (shown_rows head tape.now) }
-    ensures chosen { MemoryAside result (λ c. AreOfFurther conds.now (range_rows head tape.now from upto) c.bits) }
-    ensures one { length conds.now ≤ 1 → IsOk result }
-{
-    if conds.len() < 2 {
-        return Ok(Choice { bits: None });
-    }
-    let (_, rest) = conds.split_at(1);
-    let bits = refined(alloc, boxes, head, tape, from, upto, rest)?;
-    Ok(Choice { bits: Some(bits) })
+impl<'a, M: CrackerMap> Model for ShownRange<'a, M> {
+    ghost use Rattle.std.specs.Prelude.{map};
+    ghost use Rattle.sw_set.specs.Choice.{IsShown, RangeState, range_over};
+    ghost use Rattle.sw_set.specs.Codes.{range_code};
+
+    ghost Value = { RangeState };
+
+    ghost coded = { range_code };
+
+    ghost view = { λ r. range_over r.head r.tape.now (map M.held r.boxes.now) r.from r.upto };
+
+    ghost invariant = { λ r. IsShown (range_over r.head r.tape.now (map M.held r.boxes.now) r.from r.upto) };
 }
 
-/// The chosen rows of a range, in key order. It stands apart, as the next three do, so that a count, which needs no window, has
-/// none on its stack.
-#[inline(never)]
-fn select<M: CrackerMap>(
-    alloc: Global,
-    boxes: &[M],
-    head: u8,
-    tape: &Tape,
-    from: usize,
-    upto: usize,
-    names: &[usize],
-    choice: &Choice,
-) -> Result<ReplyRows, Refusal>
-    requires few { All (λ a. a < 8) names.now }
-    requires stocked { AreStocked head tape.now (map M.held boxes.now) }
-    requires cells { All (HasCells head tape.now (map M.held boxes.now)) names.now }
-    requires ordered { from ≤ upto }
-    requires within { upto ≤ length (shown_rows head tape.now) }
-    ensures { MemoryAside result (IsListOf names.now (chosen_rows head tape.now from upto choice.now.bits)) }
-{
-    let mut keys = window_of_keys(boxes, head, tape, from, upto);
-    let mut found = found_keys(alloc, &mut keys, from, choice)?;
-    sort_by_key(alloc, &mut found);
-    let columns = columns_of(boxes, head, tape, names);
-    rows_at(alloc, boxes, &columns, names, &found)
-}
-
-/// The sum of an attribute's cells over the chosen rows of a range, 0 for none.
-#[inline(never)]
-fn sum_of_cells<M: CrackerMap>(
-    boxes: &[M],
-    head: u8,
-    tape: &Tape,
-    attr: usize,
-    from: usize,
-    upto: usize,
-    choice: &Choice,
-) -> i128
-    requires few { attr < 8 }
-    requires stocked { AreStocked head tape.now (map M.held boxes.now) }
-    requires cells { HasCells head tape.now (map M.held boxes.now) attr }
-    requires ordered { from ≤ upto }
-    requires within { upto ≤ length (shown_rows head tape.now) }
-    ensures { result ≡ total (column attr (chosen_rows head tape.now from upto choice.now.bits)) }
-{
-    let mut cells = window_of_cells(boxes, head, tape, attr, from, upto);
-    sum(&mut cells, choice)
-}
-
-/// The least of an attribute's cells over the chosen rows of a range, if there is one.
-#[inline(never)]
-fn min_of_cells<M: CrackerMap>(
-    boxes: &[M],
-    head: u8,
-    tape: &Tape,
-    attr: usize,
-    from: usize,
-    upto: usize,
-    choice: &Choice,
-) -> Option<i64>
-    requires few { attr < 8 }
-    requires stocked { AreStocked head tape.now (map M.held boxes.now) }
-    requires cells { HasCells head tape.now (map M.held boxes.now) attr }
-    requires ordered { from ≤ upto }
-    requires within { upto ≤ length (shown_rows head tape.now) }
-    ensures { result ≡ least (column attr (chosen_rows head tape.now from upto choice.now.bits)) }
-{
-    let mut cells = window_of_cells(boxes, head, tape, attr, from, upto);
-    min(&mut cells, choice)
-}
-
-/// The greatest of an attribute's cells over the chosen rows of a range, if there is one.
-#[inline(never)]
-fn max_of_cells<M: CrackerMap>(
-    boxes: &[M],
-    head: u8,
-    tape: &Tape,
-    attr: usize,
-    from: usize,
-    upto: usize,
-    choice: &Choice,
-) -> Option<i64>
-    requires few { attr < 8 }
-    requires stocked { AreStocked head tape.now (map M.held boxes.now) }
-    requires cells { HasCells head tape.now (map M.held boxes.now) attr }
-    requires ordered { from ≤ upto }
-    requires within { upto ≤ length (shown_rows head tape.now) }
-    ensures { result ≡ greatest (column attr (chosen_rows head tape.now from upto choice.now.bits)) }
-{
-    let mut cells = window_of_cells(boxes, head, tape, attr, from, upto);
-    max(&mut cells, choice)
-}
-
-/// What is wanted of the chosen rows of a range. Only a list of rows takes memory.
-fn wanted<M: CrackerMap>(
-    alloc: Global,
-    boxes: &[M],
-    head: u8,
-    tape: &Tape,
-    from: usize,
-    upto: usize,
-    want: &Want,
-    choice: &Choice,
-) -> Result<Reply, Refusal>
-    requires few { WantsBelow 8 want.now }
-    requires stocked { AreStocked head tape.now (map M.held boxes.now) }
-    requires cells { HasWanted head tape.now (map M.held boxes.now) want.now }
-    requires ordered { from ≤ upto }
-    requires within { upto ≤ length (shown_rows head tape.now) }
-    requires fitting { AreFor (length (range_rows head tape.now from upto)) choice.now.bits }
-    ensures told { MemoryAside result (IsReplyOver (chosen_rows head tape.now from upto choice.now.bits) want.now) }
-    ensures scalars { (TakesMemory want.now → ⊥) → IsOk result }
-{
-    match want {
-        Want::Rows(names) => match select(
-            alloc,
+impl<'a, M: CrackerMap> ShownRange<'a, M> {
+    /// The range of boxes of a head from one place up to below another.
+    pub fn new(
+        boxes: &'a [M],
+        head: u8,
+        tape: &'a Tape,
+        from: usize,
+        upto: usize,
+    ) -> ShownRange<'a, M>
+        requires stocked { AreStocked head tape.now (map M.held boxes.now) }
+        requires ordered { from ≤ upto }
+        requires within { upto ≤ length (shown_rows head tape.now) }
+        ensures { result ≡ range_over head tape.now (map M.held boxes.now) from upto }
+    {
+        ShownRange {
             boxes,
             head,
             tape,
             from,
             upto,
-            names.as_slice(),
-            choice,
-        ) {
-            Ok(rows) => Ok(Reply::Rows(rows)),
-            Err(e) => Err(e),
-        },
-        Want::Count => Ok(Reply::Count(choice.count(upto - from) as u64)),
-        Want::Sum(attr) => Ok(Reply::Sum(sum_of_cells(
-            boxes, head, tape, *attr, from, upto, choice,
-        ))),
-        Want::Min(attr) => Ok(Reply::Least(min_of_cells(
-            boxes, head, tape, *attr, from, upto, choice,
-        ))),
-        Want::Max(attr) => Ok(Reply::Least(max_of_cells(
-            boxes, head, tape, *attr, from, upto, choice,
-        ))),
+        }
+    }
+
+    /// How many rows there are.
+    fn len(&self) -> usize
+        ensures { result ≡ length (range_rows self.now) }
+    {
+        self.upto - self.from
+    }
+
+    /// The cells of an attribute.
+    fn cells(&self, attr: usize) -> Window<'a, M>
+        requires few { attr < 8 }
+        requires cells { ShowsCells self.now attr }
+        ensures { result ≡ column attr (range_rows self.now) }
+    {
+        let column = column_of(self.boxes, self.head, self.tape, attr);
+        Window::new(&self.boxes[column.at], column.side, self.from, self.upto)
+    }
+
+    /// The keys.
+    fn keys(&self) -> Window<'a, M>
+        ensures { result ≡ map (λ r. pos r.key) (range_rows self.now) }
+    {
+        let at = find_ready(self.boxes, Tail::Key, self.tape);
+        Window::new(&self.boxes[at], Side::Tail, self.from, self.upto)
+    }
+
+    /// Which rows meet some conditions.
+    fn refined(&self, alloc: Global, conds: &[Cond]) -> Result<Bits, Refusal>
+        requires few { CondsBelow 8 conds.now }
+        requires cells { All (λ c. ShowsCells self.now c.attr) conds.now }
+        ensures { MemoryAside result (λ bits. bits ≡ map (meets_all conds.now) (range_rows self.now)) }
+    {
+        let mut bits = Bits::all(alloc, self.len())?;
+        for cond in conds {
+            let mut cells = self.cells(cond.attr);
+            refine_by(&mut bits, &mut cells, cond);
+        }
+        Ok(bits)
+    }
+
+    /// Which rows meet the conditions after the first. It takes no memory where there is one condition at most.
+    fn choose(&self, alloc: Global, conds: &[Cond]) -> Result<Choice, Refusal>
+        requires few { CondsBelow 8 conds.now }
+        requires cells { All (λ c. ShowsCells self.now c.attr) conds.now }
+        ensures chosen { MemoryAside result (λ c. AreOfFurther conds.now (range_rows self.now) c.bits) }
+        ensures one { length conds.now ≤ 1 → IsOk result }
+    {
+        if conds.len() < 2 {
+            return Ok(Choice { bits: None });
+        }
+        let (_, rest) = conds.split_at(1);
+        let bits = self.refined(alloc, rest)?;
+        Ok(Choice { bits: Some(bits) })
+    }
+
+    /// The chosen rows, in key order. It stands apart, as the next three do, so that a count, which needs no window, has none on its
+    /// stack.
+    #[inline(never)]
+    fn select(&self, alloc: Global, names: &[usize], choice: &Choice) -> Result<ReplyRows, Refusal>
+        requires few { All (λ a. a < 8) names.now }
+        requires cells { All (ShowsCells self.now) names.now }
+        ensures { MemoryAside result (IsListOf names.now (chosen_rows self.now choice.now.bits)) }
+    {
+        let mut keys = self.keys();
+        let mut found = found_keys(alloc, &mut keys, self.from, choice)?;
+        sort_by_key(alloc, &mut found);
+        let columns = columns_of(self.boxes, self.head, self.tape, names);
+        rows_at(alloc, self.boxes, &columns, names, &found)
+    }
+
+    /// The sum of an attribute's cells over the chosen rows, 0 for none.
+    #[inline(never)]
+    fn sum(&self, attr: usize, choice: &Choice) -> i128
+        requires few { attr < 8 }
+        requires cells { ShowsCells self.now attr }
+        ensures { result ≡ total (column attr (chosen_rows self.now choice.now.bits)) }
+    {
+        let mut cells = self.cells(attr);
+        sum(&mut cells, choice)
+    }
+
+    /// The least of an attribute's cells over the chosen rows, if there is one.
+    #[inline(never)]
+    fn min(&self, attr: usize, choice: &Choice) -> Option<i64>
+        requires few { attr < 8 }
+        requires cells { ShowsCells self.now attr }
+        ensures { result ≡ least (column attr (chosen_rows self.now choice.now.bits)) }
+    {
+        let mut cells = self.cells(attr);
+        min(&mut cells, choice)
+    }
+
+    /// The greatest of an attribute's cells over the chosen rows, if there is one.
+    #[inline(never)]
+    fn max(&self, attr: usize, choice: &Choice) -> Option<i64>
+        requires few { attr < 8 }
+        requires cells { ShowsCells self.now attr }
+        ensures { result ≡ greatest (column attr (chosen_rows self.now choice.now.bits)) }
+    {
+        let mut cells = self.cells(attr);
+        max(&mut cells, choice)
+    }
+
+    /// What is wanted of the chosen rows. Only a list of rows takes memory.
+    fn wanted(&self, alloc: Global, want: &Want, choice: &Choice) -> Result<Reply, Refusal>
+        requires few { WantsBelow 8 want.now }
+        requires cells { ShowsWanted self.now want.now }
+        requires fitting { AreFor (length (range_rows self.now)) choice.now.bits }
+        ensures told { MemoryAside result (IsReplyOver (chosen_rows self.now choice.now.bits) want.now) }
+        ensures scalars { (TakesMemory want.now → ⊥) → IsOk result }
+    {
+        match want {
+            Want::Rows(names) => match self.select(alloc, names.as_slice(), choice) {
+                Ok(rows) => Ok(Reply::Rows(rows)),
+                Err(e) => Err(e),
+            },
+            Want::Count => Ok(Reply::Count(choice.count(self.len()) as u64)),
+            Want::Sum(attr) => Ok(Reply::Sum(self.sum(*attr, choice))),
+            Want::Min(attr) => Ok(Reply::Least(self.min(*attr, choice))),
+            Want::Max(attr) => Ok(Reply::Least(self.max(*attr, choice))),
+        }
+    }
+
+    /// What a query is answered, where the range's rows are those that meet its first condition, and the boxes that it needs stand at the
+    /// tape's end.
+    ///
+    /// The reply is that of a plain scan over the rows that the tape holds, in key order. The one refusal is `NoMemory`, and only where
+    /// rows are asked for or there are two conditions or more.
+    pub fn collect(&self, alloc: Global, query: &Query) -> Result<Reply, Refusal>
+        requires asks { AsksBelow 8 query.now }
+        requires maps { StandReady (needed self.now.head query.now) self.now.tape self.now.maps }
+        requires run { IsRangeOf query.now.conds self.now }
+        ensures answered { AnswersInOrder result (shown_rows self.now.head self.now.tape) query.now }
+        ensures refused { IsOkUnless result NoMemory }
+        ensures scalars { (TakesMemory query.now.want → ⊥) → length query.now.conds ≤ 1 → IsOk result }
+    {
+        let choice = self.choose(alloc, query.conds.as_slice())?;
+        self.wanted(alloc, &query.want, &choice)
     }
 }
 
@@ -227,34 +225,4 @@ pub fn nothing(alloc: Global, want: &Want) -> Reply
         Want::Sum(_) => Reply::Sum(0),
         Want::Min(_) | Want::Max(_) => Reply::Least(None),
     }
-}
-
-/// What a query is answered, from boxes of which those that it needs stand at the tape's end, and the range of places whose
-/// rows meet its first condition. Where the range is empty, no box is needed.
-///
-/// The reply is that of a plain scan over the rows that the tape holds, in key order. The one refusal is `NoMemory`,
-/// and only where rows are asked for or there are two conditions or more.
-pub(crate) fn collect_from<M: CrackerMap>(
-    alloc: Global,
-    boxes: &[M],
-    head: u8,
-    tape: &Tape,
-    from: usize,
-    upto: usize,
-    query: &Query,
-) -> Result<Reply, Refusal>
-    requires asks { AsksBelow 8 query.now }
-    requires head { head_in query.now.conds ≡ head }
-    requires lawful { All (IsLawful head tape.now) (map M.held boxes.now) }
-    requires maps { from < upto → StandReady (needed head query.now) tape.now (map M.held boxes.now) }
-    requires run { IsRun (meets_first query.now.conds) (shown_rows head tape.now) from upto }
-    ensures answered { AnswersInOrder result (shown_rows head tape.now) query.now }
-    ensures refused { IsOkUnless result NoMemory }
-    ensures scalars { (TakesMemory query.now.want → ⊥) → length query.now.conds ≤ 1 → IsOk result }
-{
-    if from == upto {
-        return Ok(nothing(alloc, &query.want));
-    }
-    let choice = choose(alloc, boxes, head, tape, from, upto, query.conds.as_slice())?;
-    wanted(alloc, boxes, head, tape, from, upto, &query.want, &choice)
 }

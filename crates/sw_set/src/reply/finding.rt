@@ -1,12 +1,12 @@
 //! Where the columns that a query needs stand.
 
-ghost use Rattle.std.specs.Prelude.{◌≡◌, ℕ, ◌<◌, ◌≤◌, pos, List, map, length, slice_index_or, Any, All, Decides, Contains};
+ghost use Rattle.std.specs.Prelude.{◌≡◌, ℕ, ◌<◌, map, length, slice_index_or, Any, All, Decides};
 ghost use Rattle.sw_query.specs.Scan.{column};
-ghost use Rattle.sw_set.specs.Choice.{AreStocked, HasCells, HasColumn, IsColumn, range_rows, shown_rows};
+ghost use Rattle.sw_set.specs.Choice.{AreStocked, HasCells, HasColumn, IsColumn, shown_rows};
 ghost use Rattle.sw_set.specs.Prepared.{IsReady};
 ghost use Rattle.sw_map.specs.declared.tail.Tail.TheVariants.{Key};
 
-use crate::reply::window::{Column, Side, Window};
+use crate::reply::window::{Column, Side};
 use sw_map::{CrackerMap, Tail};
 use sw_tape::Tape;
 
@@ -18,7 +18,7 @@ pub(crate) fn is_ready<M: CrackerMap>(it: &M, tail: Tail, tape: &Tape) -> bool
 }
 
 /// The box that has the map of a tail at the tape's end.
-fn find_ready<M: CrackerMap>(boxes: &[M], tail: Tail, tape: &Tape) -> usize
+pub(crate) fn find_ready<M: CrackerMap>(boxes: &[M], tail: Tail, tape: &Tape) -> usize
     requires { Any (IsReady tail tape.now) (map M.held boxes.now) }
     ensures inside { result < length boxes.now }
     ensures ready { (d : M) → IsReady tail tape.now (M.held (slice_index_or boxes.now result d)) }
@@ -70,41 +70,4 @@ pub(crate) fn columns_of<M: CrackerMap>(
         columns[*name] = column_of(boxes, head, tape, *name);
     }
     columns
-}
-
-/// The cells of an attribute from one place up to below another.
-pub(crate) fn window_of_cells<'a, M: CrackerMap>(
-    boxes: &'a [M],
-    head: u8,
-    tape: &Tape,
-    attr: usize,
-    from: usize,
-    upto: usize,
-) -> Window<'a, M>
-    requires few { attr < 8 }
-    requires stocked { AreStocked head tape.now (map M.held boxes.now) }
-    requires cells { HasCells head tape.now (map M.held boxes.now) attr }
-    requires ordered { from ≤ upto }
-    requires within { upto ≤ length (shown_rows head tape.now) }
-    ensures { result ≡ column attr (range_rows head tape.now from upto) }
-{
-    let column = column_of(boxes, head, tape, attr);
-    Window::new(&boxes[column.at], column.side, from, upto)
-}
-
-/// The keys from one place up to below another.
-pub(crate) fn window_of_keys<'a, M: CrackerMap>(
-    boxes: &'a [M],
-    head: u8,
-    tape: &Tape,
-    from: usize,
-    upto: usize,
-) -> Window<'a, M>
-    requires stocked { AreStocked head tape.now (map M.held boxes.now) }
-    requires ordered { from ≤ upto }
-    requires within { upto ≤ length (shown_rows head tape.now) }
-    ensures { result ≡ map (λ r. pos r.key) (range_rows head tape.now from upto) }
-{
-    let at = find_ready(boxes, Tail::Key, tape);
-    Window::new(&boxes[at], Side::Tail, from, upto)
 }

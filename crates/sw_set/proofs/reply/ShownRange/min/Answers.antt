@@ -1,0 +1,11 @@
+use Rattle.std.proofs.Common.{◌∙◌, ap, ℤ, List}
+use Rattle.sw_query.specs.Scan.{cell_of, least}
+use Rattle.sw_set.specs.Choice.{chosen, range_rows}
+use Rattle.sw_set.proofs.Replying.Told.{chosen-map}
+use Rattle.sw_set.proofs.reply.ShownRange.min.Goals as goal
+
+pub returns : goal.returns
+returns g c =
+    let o = c.args.choice.now.bits in
+    let range = range_rows c.args.self.now in
+    c.min.ensures ∙ ap (λ (v : List ℤ). least (chosen o v)) c.cells-cells.ensures ∙ ap least (chosen-map (cell_of c.args.attr) o range)
