@@ -63,6 +63,7 @@ pub record RangeState : Type 0 where
   pub from : ℕ
   pub upto : ℕ
 
+-- one of a head's tape and maps
 abbrev pub range_over : ℕ → List (Step Row) → List Held → ℕ → ℕ → RangeState
 range_over head tape maps from upto = record { head = head; tape = tape; maps = maps; from = from; upto = upto }
 
@@ -70,8 +71,8 @@ range_over head tape maps from upto = record { head = head; tape = tape; maps = 
 abbrev pub range_rows : RangeState → List Row
 range_rows r = slice_range (shown_rows r.head r.tape) r.from r.upto
 
--- one of the maps has the keys, and they have so many places
-pub record IsShown (r : RangeState) : Type 0 where
+-- the maps are lawful, one has the keys at the tape's end, and the range lies within its places
+pub record IsLawfulRange (r : RangeState) : Type 0 where
   pub stocked : AreStocked r.head r.tape r.maps
   pub ordered : r.from ≤ r.upto
   pub within : r.upto ≤ length (shown_rows r.head r.tape)
@@ -84,9 +85,9 @@ IsRangeOf conds r = IsRun (meets_first conds) (shown_rows r.head r.tape) r.from 
 abbrev pub HasCells : ℕ → List (Step Row) → List Held → ℕ → Type 0
 HasCells head tape ms b = b ≢ head → Any (IsReady (Cell b) tape) ms
 
--- the same of a range
-abbrev pub ShowsCells : RangeState → ℕ → Type 0
-ShowsCells r b = HasCells r.head r.tape r.maps b
+-- a range's maps have the cells of an attribute
+abbrev pub RangeHasCells : RangeState → ℕ → Type 0
+RangeHasCells r b = HasCells r.head r.tape r.maps b
 
 -- the value of a column at a place
 abbrev pub value_in : List Held → Column → ℕ → ℤ
@@ -185,10 +186,6 @@ HasWanted head tape ms want.Count = Unit {0}
 HasWanted head tape ms (want.Sum a) = HasCells head tape ms a
 HasWanted head tape ms (want.Min a) = HasCells head tape ms a
 HasWanted head tape ms (want.Max a) = HasCells head tape ms a
-
--- the same of a range
-abbrev pub ShowsWanted : RangeState → Want → Type 0
-ShowsWanted r w = HasWanted r.head r.tape r.maps w
 
 -- ---- the least and the greatest
 

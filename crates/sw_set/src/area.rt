@@ -1,6 +1,6 @@
 //! An area, and its single changes.
 
-ghost use Rattle.std.specs.Prelude.{◌≡◌, ◌<◌, ◌≤◌, ◌+◌, ◌^◌, ◌++◌, false, true, List, [], length, map, All, IfErr, IfOk, IsOk, IsOkUnless, MatchOption, OnErr, remove, slice_index_or};
+ghost use Rattle.std.specs.Prelude.{◌≡◌, ◌<◌, ◌≤◌, ◌+◌, ◌^◌, ◌++◌, false, true, List, [], length, All, IfErr, IfOk, IsOk, IsOkUnless, MatchOption, OnErr, remove, slice_index_or};
 ghost use Rattle.sw_table.specs.declared.row.Row.{Row};
 ghost use Rattle.sw_table.specs.declared.row.Update.TheVariants.{Insert};
 ghost use Rattle.sw_query.specs.declared.refusal.Refusal.TheVariants.{NoMemory};
@@ -588,6 +588,7 @@ impl<M: CrackerMap> Area<M> {
         ensures scalars { (TakesMemory query.now.want → ⊥) → length query.now.conds ≤ 1 → IsOk result }
     {
         self.known();
+        // of an area that the query does not touch no map need stand at the tape's end, and there is no range to show
         if ready.from == ready.upto {
             return Ok(nothing(self.alloc, &query.want));
         }

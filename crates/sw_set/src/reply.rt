@@ -3,10 +3,10 @@
 ghost use Rattle.std.specs.Prelude.{◌≡◌, ◌<◌, ◌≤◌, [], map, length, pos, All, IsOk, IsOkUnless};
 ghost use Rattle.sw_query.specs.declared.refusal.Refusal.TheVariants.{NoMemory};
 ghost use Rattle.sw_query.specs.Scan.{AsksBelow, CondsBelow, WantsBelow, TakesMemory, answer_over, column, greatest, least, meets_all, total};
-ghost use Rattle.sw_set.specs.Needs.{head_in, needed};
+ghost use Rattle.sw_set.specs.Needs.{needed};
 ghost use Rattle.sw_query.specs.Outcomes.{MemoryAside};
 ghost use Rattle.sw_set.specs.Prepared.{StandReady};
-ghost use Rattle.sw_set.specs.Choice.{AreFor, AreStocked, IsRangeOf, ShowsCells, ShowsWanted, range_over, range_rows, shown_rows};
+ghost use Rattle.sw_set.specs.Choice.{AreFor, AreStocked, HasWanted, IsRangeOf, RangeHasCells, range_over, range_rows, shown_rows};
 ghost use Rattle.sw_set.specs.Collected.{AnswersInOrder, AreOfFurther, IsListOf, IsReplyOver, chosen_rows};
 
 pub(crate) mod choice;
@@ -18,7 +18,6 @@ pub(crate) mod window;
 use crate::reply::choice::{Choice, refine_by};
 use crate::reply::finding::{column_of, columns_of, find_ready};
 use crate::reply::replies::{found_keys, rows_at, sort_by_key};
-use crate::reply::totals::{max, min, sum};
 use crate::reply::window::{Side, Window};
 use std::alloc::Global;
 use std::marker::Model;
@@ -27,8 +26,8 @@ use sw_map::{CrackerMap, Tail};
 use sw_query::{Cond, Query, Refusal, Reply, ReplyRows, Want};
 use sw_tape::Tape;
 
-/// A range of the places of maps that stand at the tape's end, one of which has the keys: from one place up to below another.
-/// Contracts see what it shows.
+/// A range of places, from one up to below another, of an area's maps at the tape's end. Other boxes may lag; one has the keys there.
+/// Contracts see the tape, the maps and the places.
 #[derive(Drop)]
 pub(crate) struct ShownRange<'a, M: CrackerMap> {
     boxes: &'a [M],
@@ -40,7 +39,7 @@ pub(crate) struct ShownRange<'a, M: CrackerMap> {
 
 impl<'a, M: CrackerMap> Model for ShownRange<'a, M> {
     ghost use Rattle.std.specs.Prelude.{map};
-    ghost use Rattle.sw_set.specs.Choice.{IsShown, RangeState, range_over};
+    ghost use Rattle.sw_set.specs.Choice.{IsLawfulRange, RangeState, range_over};
     ghost use Rattle.sw_set.specs.Codes.{range_code};
 
     ghost Value = { RangeState };
@@ -49,11 +48,11 @@ impl<'a, M: CrackerMap> Model for ShownRange<'a, M> {
 
     ghost view = { λ r. range_over r.head r.tape.now (map M.held r.boxes.now) r.from r.upto };
 
-    ghost invariant = { λ r. IsShown (range_over r.head r.tape.now (map M.held r.boxes.now) r.from r.upto) };
+    ghost invariant = { λ r. IsLawfulRange (range_over r.head r.tape.now (map M.held r.boxes.now) r.from r.upto) };
 }
 
 impl<'a, M: CrackerMap> ShownRange<'a, M> {
-    /// The range of boxes of a head from one place up to below another.
+    /// A range of places of these boxes' maps, which are of one head: from one place up to below another.
     pub fn new(
         boxes: &'a [M],
         head: u8,
@@ -82,17 +81,17 @@ impl<'a, M: CrackerMap> ShownRange<'a, M> {
         self.upto - self.from
     }
 
-    /// The cells of an attribute.
+    /// The cells of an attribute of the range's rows, by place.
     fn cells(&self, attr: usize) -> Window<'a, M>
         requires few { attr < 8 }
-        requires cells { ShowsCells self.now attr }
+        requires cells { RangeHasCells self.now attr }
         ensures { result ≡ column attr (range_rows self.now) }
     {
         let column = column_of(self.boxes, self.head, self.tape, attr);
         Window::new(&self.boxes[column.at], column.side, self.from, self.upto)
     }
 
-    /// The keys.
+    /// The keys of the range's rows, by place.
     fn keys(&self) -> Window<'a, M>
         ensures { result ≡ map (λ r. pos r.key) (range_rows self.now) }
     {
@@ -100,10 +99,10 @@ impl<'a, M: CrackerMap> ShownRange<'a, M> {
         Window::new(&self.boxes[at], Side::Tail, self.from, self.upto)
     }
 
-    /// Which rows meet some conditions.
+    /// Which of the range's rows meet some conditions, by place.
     fn refined(&self, alloc: Global, conds: &[Cond]) -> Result<Bits, Refusal>
         requires few { CondsBelow 8 conds.now }
-        requires cells { All (λ c. ShowsCells self.now c.attr) conds.now }
+        requires cells { All (λ c. RangeHasCells self.now c.attr) conds.now }
         ensures { MemoryAside result (λ bits. bits ≡ map (meets_all conds.now) (range_rows self.now)) }
     {
         let mut bits = Bits::all(alloc, self.len())?;
@@ -117,7 +116,7 @@ impl<'a, M: CrackerMap> ShownRange<'a, M> {
     /// Which rows meet the conditions after the first. It takes no memory where there is one condition at most.
     fn choose(&self, alloc: Global, conds: &[Cond]) -> Result<Choice, Refusal>
         requires few { CondsBelow 8 conds.now }
-        requires cells { All (λ c. ShowsCells self.now c.attr) conds.now }
+        requires cells { All (λ c. RangeHasCells self.now c.attr) conds.now }
         ensures chosen { MemoryAside result (λ c. AreOfFurther conds.now (range_rows self.now) c.bits) }
         ensures one { length conds.now ≤ 1 → IsOk result }
     {
@@ -134,7 +133,7 @@ impl<'a, M: CrackerMap> ShownRange<'a, M> {
     #[inline(never)]
     fn select(&self, alloc: Global, names: &[usize], choice: &Choice) -> Result<ReplyRows, Refusal>
         requires few { All (λ a. a < 8) names.now }
-        requires cells { All (ShowsCells self.now) names.now }
+        requires cells { All (RangeHasCells self.now) names.now }
         ensures { MemoryAside result (IsListOf names.now (chosen_rows self.now choice.now.bits)) }
     {
         let mut keys = self.keys();
@@ -148,39 +147,39 @@ impl<'a, M: CrackerMap> ShownRange<'a, M> {
     #[inline(never)]
     fn sum(&self, attr: usize, choice: &Choice) -> i128
         requires few { attr < 8 }
-        requires cells { ShowsCells self.now attr }
+        requires cells { RangeHasCells self.now attr }
         ensures { result ≡ total (column attr (chosen_rows self.now choice.now.bits)) }
     {
         let mut cells = self.cells(attr);
-        sum(&mut cells, choice)
+        totals::sum(&mut cells, choice)
     }
 
     /// The least of an attribute's cells over the chosen rows, if there is one.
     #[inline(never)]
     fn min(&self, attr: usize, choice: &Choice) -> Option<i64>
         requires few { attr < 8 }
-        requires cells { ShowsCells self.now attr }
+        requires cells { RangeHasCells self.now attr }
         ensures { result ≡ least (column attr (chosen_rows self.now choice.now.bits)) }
     {
         let mut cells = self.cells(attr);
-        min(&mut cells, choice)
+        totals::min(&mut cells, choice)
     }
 
     /// The greatest of an attribute's cells over the chosen rows, if there is one.
     #[inline(never)]
     fn max(&self, attr: usize, choice: &Choice) -> Option<i64>
         requires few { attr < 8 }
-        requires cells { ShowsCells self.now attr }
+        requires cells { RangeHasCells self.now attr }
         ensures { result ≡ greatest (column attr (chosen_rows self.now choice.now.bits)) }
     {
         let mut cells = self.cells(attr);
-        max(&mut cells, choice)
+        totals::max(&mut cells, choice)
     }
 
     /// What is wanted of the chosen rows. Only a list of rows takes memory.
     fn wanted(&self, alloc: Global, want: &Want, choice: &Choice) -> Result<Reply, Refusal>
         requires few { WantsBelow 8 want.now }
-        requires cells { ShowsWanted self.now want.now }
+        requires cells { HasWanted self.now.head self.now.tape self.now.maps want.now }
         requires fitting { AreFor (length (range_rows self.now)) choice.now.bits }
         ensures told { MemoryAside result (IsReplyOver (chosen_rows self.now choice.now.bits) want.now) }
         ensures scalars { (TakesMemory want.now → ⊥) → IsOk result }

@@ -1,6 +1,6 @@
 //! Where the columns that a query needs stand.
 
-ghost use Rattle.std.specs.Prelude.{◌≡◌, ℕ, ◌<◌, map, length, slice_index_or, Any, All, Decides};
+ghost use Rattle.std.specs.Prelude.{ℕ, ◌<◌, map, length, slice_index_or, Any, All, Decides};
 ghost use Rattle.sw_query.specs.Scan.{column};
 ghost use Rattle.sw_set.specs.Choice.{AreStocked, HasCells, HasColumn, IsColumn, shown_rows};
 ghost use Rattle.sw_set.specs.Prepared.{IsReady};

@@ -1,11 +1,11 @@
 use Rattle.std.proofs.Common.{◌∙◌, ap, sym, subst, slice_range}
 use Rattle.sw_query.specs.Scan.{cell_of, column}
-use Rattle.sw_set.specs.Choice.{RangeState, ShowsCells, range_rows, shown_rows, side_in}
+use Rattle.sw_set.specs.Choice.{RangeHasCells, RangeState, range_rows, shown_rows, side_in}
 use Rattle.sw_set.proofs.Replying.Stock.{column-range}
 use Rattle.sw_set.proofs.reply.ShownRange.cells.Goals as goal
 
 pub column_of-column-requires-clause-cells : goal.column_of-column-requires-clause-cells
-column_of-column-requires-clause-cells g c κs within = subst (λ (v : RangeState). ShowsCells v c.args.attr) (sym c.self.view_is) c.requires.cells
+column_of-column-requires-clause-cells g c κs within = subst (λ (v : RangeState). RangeHasCells v c.args.attr) (sym c.self.view_is) c.requires.cells
 
 pub returns : goal.returns
 returns g c =

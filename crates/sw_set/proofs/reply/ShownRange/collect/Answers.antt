@@ -5,7 +5,7 @@ use Rattle.sw_query.specs.declared.refusal.Refusal.{Refusal}
 use Rattle.sw_query.specs.declared.refusal.Refusal.TheVariants.{NoMemory}
 use Rattle.sw_table.specs.declared.row.Row.{Row}
 use Rattle.sw_query.specs.Scan.{answer, meets_all}
-use Rattle.sw_set.specs.Choice.{AreOf, ShowsCells, chosen, further, range_rows, shown_rows}
+use Rattle.sw_set.specs.Choice.{AreOf, RangeHasCells, chosen, further, range_rows, shown_rows}
 use Rattle.sw_set.specs.Collected.{IsReplyOver}
 use Rattle.sw_set.proofs.Replying.Answered.{range-matching, told-answer}
 use Rattle.sw_set.proofs.Preparing.Needing.{conds-held, want-held}
@@ -15,7 +15,7 @@ use Rattle.sw_set.proofs.reply.ShownRange.collect.Goals as goal
 pub choose-requires-clause-cells : goal.choose-requires-clause-cells
 choose-requires-clause-cells g c κs within =
     let q = c.args.query.now in
-    subst (λ (v : List Cond). All (λ (e : Cond). ShowsCells c.args.self.now e.attr) v) (sym c.as_slice.ensures)
+    subst (λ (v : List Cond). All (λ (e : Cond). RangeHasCells c.args.self.now e.attr) v) (sym c.as_slice.ensures)
     (conds-held c.args.self.now.head c.args.self.now.tape c.args.self.now.maps q.conds q.want c.requires.asks.conds c.requires.maps)
 
 pub wanted-requires-clause-cells : goal.wanted-requires-clause-cells
