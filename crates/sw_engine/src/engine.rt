@@ -31,7 +31,7 @@ use crate::heads::opening::{Ground, Opening};
 use crate::history::desk::{Blank, Desk};
 use crate::history::locked::{LockedDesk, Miss};
 use crate::history::ticket::Ticket;
-use crate::pausing::{LOCK_PAUSES, NAPS, wait_at_lock};
+use crate::pausing::{LOCK_NAPS, LOCK_PAUSES, wait_at_lock};
 use crate::viewing::{Receipt, Viewer};
 use crossbeam_utils::{Backoff, CachePadded};
 use std::alloc::{AllocError, Global};
@@ -51,7 +51,7 @@ const PART: usize = 1024;
 /// What lies under the lock. Others mostly hold it for less time than a sleep takes, so the thread looks at it many times between
 /// pauses; then it sleeps between looks, and at last waits for its turn.
 fn take<'l, T, R: Wait>(rt: &R, lock: &'l Mutex<T>) -> MutexGuard<'l, T> {
-    for look in 0..LOCK_PAUSES + NAPS {
+    for look in 0..LOCK_PAUSES + LOCK_NAPS {
         if let Some(guard) = lock.try_lock() {
             return guard;
         }

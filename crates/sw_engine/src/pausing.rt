@@ -18,15 +18,18 @@ pub(crate) const LOCK_PAUSES: u32 = 64;
 /// How often the pause between looks at the lock is doubled: then it takes as long as a few visits.
 const PAUSE_DOUBLINGS: u32 = 3;
 
-/// How often a thread sleeps between looks at a lock or a latch, before it waits for its turn: who is woken up for its turn, and finds
-/// no processor free, keeps all behind it asleep.
-pub(crate) const NAPS: u32 = 9;
+/// How often a thread sleeps between looks at the lock, before it waits for its turn: who is woken up for its turn, and finds no processor
+/// free, keeps all behind it asleep. Not often, since others may take the lock again and again meanwhile.
+pub(crate) const LOCK_NAPS: u32 = 3;
 
-/// How long the first of these sleeps is, in microseconds. Who has a latch makes many selects in a row meanwhile, and the head's data
-/// stay in one processor's cache.
+/// How often a thread sleeps between looks at a latch, before it waits for its turn. Who has the latch makes many selects in a row
+/// meanwhile, and the head's data stay in one processor's cache.
+pub(crate) const LATCH_NAPS: u32 = 9;
+
+/// How long a sleep is at first, in microseconds.
 const NAP: u64 = 100;
 
-/// How often these sleeps are doubled.
+/// How often the sleep between looks at a latch is doubled.
 const NAP_DOUBLINGS: u32 = 2;
 
 /// Pauses for so long.
@@ -36,18 +39,17 @@ fn pause(long: usize) {
     }
 }
 
-/// Sleeps between two looks, behind so many such sleeps.
-fn nap<R: Wait>(rt: &R, before: u32) {
-    let long = NAP << before.min(NAP_DOUBLINGS);
+/// Sleeps for so many microseconds.
+fn nap<R: Wait>(rt: &R, long: u64) {
     AtomicU64::new(0).park_timeout(rt, 0, Duration::from_micros(long));
 }
 
-/// Waits between two looks at the lock, longer at each: first with the processor, then asleep.
+/// Waits between two looks at the lock: first with the processor, longer at each, then asleep.
 pub(crate) fn wait_at_lock<R: Wait>(rt: &R, look: u32) {
     if look < LOCK_PAUSES {
         pause(PAUSE << look.min(PAUSE_DOUBLINGS));
     } else {
-        nap(rt, look - LOCK_PAUSES);
+        nap(rt, NAP);
     }
 }
 
@@ -56,6 +58,6 @@ pub(crate) fn wait_at_latch<R: Wait>(rt: &R, look: u32) {
     if look < LATCH_PAUSES {
         pause(PAUSE << look);
     } else {
-        nap(rt, look - LATCH_PAUSES);
+        nap(rt, NAP << (look - LATCH_PAUSES).min(NAP_DOUBLINGS));
     }
 }

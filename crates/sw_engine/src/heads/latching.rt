@@ -1,7 +1,7 @@
 //! How heads lie under latches: each for one thread at a time, or shared by those that change nothing.
 
 use crate::heads::latch::LatchedHead;
-use crate::pausing::{LATCH_PAUSES, NAPS, wait_at_latch};
+use crate::pausing::{LATCH_NAPS, LATCH_PAUSES, wait_at_latch};
 use std::sync::{Mutex, MutexGuard, RwLock, RwLockReadGuard, RwLockWriteGuard, Wait};
 
 /// What one thread has alone.
@@ -48,7 +48,7 @@ impl<T: Drop> Latch<T> for Mutex<T> {
     }
 
     fn take<R: Wait>(&self, rt: &R) -> Alone<'_, T> {
-        for look in 0..LATCH_PAUSES + NAPS {
+        for look in 0..LATCH_PAUSES + LATCH_NAPS {
             if let Some(guard) = self.try_lock() {
                 return Alone::Locked(guard);
             }
@@ -68,7 +68,7 @@ impl<T: Drop> Latch<T> for RwLock<T> {
     }
 
     fn take<R: Wait>(&self, rt: &R) -> Alone<'_, T> {
-        for look in 0..LATCH_PAUSES + NAPS {
+        for look in 0..LATCH_PAUSES + LATCH_NAPS {
             if let Some(guard) = self.try_write() {
                 return Alone::Written(guard);
             }
@@ -78,7 +78,7 @@ impl<T: Drop> Latch<T> for RwLock<T> {
     }
 
     fn share<R: Wait>(&self, rt: &R) -> Option<RwLockReadGuard<'_, T>> {
-        for look in 0..LATCH_PAUSES + NAPS {
+        for look in 0..LATCH_PAUSES + LATCH_NAPS {
             if let Some(guard) = self.try_read() {
                 return Some(guard);
             }
