@@ -1,6 +1,6 @@
 #!/usr/bin/env bash
 # What the gate runs after `rt ci`, over the programs and libraries that it built (tests/README.md): wrong bodies of crates
-# that are dear to prove, one of each and all that are feared, and beside them the steps, one after another.
+# that are dear to prove, two of each and all that are feared, and beside them the steps, one after another.
 # Some minutes; ends with 1 at the first step that fails, or where a wrong body is not refused.
 #
 #     tests/after.sh
@@ -22,7 +22,7 @@ trap '[ -z "$trying" ] || kill "$trying" 2>/dev/null; rm -rf "$room"' EXIT
 trap 'exit 130' HUP INT TERM
 (cd "$top" && step python3 bench/stamps.py "$(dirname "$(rt doc)")") || exit
 echo "after: tests/wrong.py, beside the other steps" >&2
-TMPDIR=$room nice -n 5 python3 "$top/tests/wrong.py" --most 1 &
+TMPDIR=$room nice -n 5 python3 "$top/tests/wrong.py" --most 2 &
 trying=$!
 
 step sh "$top/tests/crates.sh"
