@@ -76,11 +76,12 @@ class Body:
 
 
 class Trial:
-    """The checks of one crate with wrong bodies."""
+    """The checks of one crate with wrong bodies, one after another. What one has checked stays in a folder for the next, until the last ended."""
 
     def __init__(self, crate, rtlib):
-        self.crate, self.rtlib, self.seconds = crate, rtlib, 0.0
-        self.words = [*rtlib.guarded(), "timeout", "--foreground", str(SECONDS), rtlib.RATTLE, "check", *crate.words(["--jobs", "1"], keeps=False)]
+        self.crate, self.rtlib, self.seconds, self.kept = crate, rtlib, 0.0, tempfile.TemporaryDirectory(prefix="wrong-")
+        words = crate.words(["--jobs", "1", "--incremental", self.kept.name], keeps=False)
+        self.words = [*rtlib.guarded(), "timeout", "--foreground", str(SECONDS), rtlib.RATTLE, "check", *words]
 
     @contextlib.contextmanager
     def copy(self, bodies):

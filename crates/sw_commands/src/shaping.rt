@@ -6,7 +6,7 @@ use std::io::{BufWriter, Write};
 use sw_faults::call_lines;
 use sw_outputs::{Told, makes_table, write_csv, write_json, write_table};
 use sw_rows::{Counted, Refusal, Reply, Schema, Sink, Why};
-use sw_spine::{Entry, Record, State};
+use sw_spine::{KeptEntry, Record, StateRef};
 
 /// The form in which replies go out.
 #[derive(Clone, Copy, PartialEq, Eq)]
@@ -38,11 +38,11 @@ impl Form {
 type Place = (u64, usize);
 
 /// The places of all entries, block after block.
-fn places(alloc: Global, entries: &[Entry]) -> Result<Vec<Place>, AllocError> {
+fn places(alloc: Global, entries: &[KeptEntry]) -> Result<Vec<Place>, AllocError> {
     let mut places = Vec::with_capacity(alloc, entries.len())?;
     for place in 0..entries.len() {
         if place < entries.len() {
-            places.push((entries[place].session, place))?;
+            places.push((entries[place].session(), place))?;
         }
     }
     places.sort()?;
@@ -76,17 +76,17 @@ fn lines(
 }
 
 /// What an entry was answered; none where its call was refused.
-fn reply_of(entry: &Entry) -> Option<&Reply> {
-    match &entry.state {
-        State::Answered(reply) => Some(reply),
-        State::Lines(_) | State::Open | State::Void => None,
+fn reply_of(entry: &KeptEntry) -> Option<&Reply> {
+    match entry.state() {
+        StateRef::Answered(reply) => Some(reply),
+        StateRef::Lines(_) | StateRef::Open | StateRef::Void => None,
     }
 }
 
 /// The calls of a record, block after block, each with its line, where lines are known.
 struct Calls<'r> {
     schema: &'r Schema,
-    entries: &'r [Entry],
+    entries: &'r [KeptEntry],
     places: Vec<Place>,
     lines: Option<Vec<u32>>,
 }
@@ -116,7 +116,7 @@ impl Calls<'_> {
             number: (number as u64).saturating_add(1),
             block,
             line,
-            call: entry.call.get(),
+            call: entry.call(),
             reply: reply_of(entry),
         })
     }

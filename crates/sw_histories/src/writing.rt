@@ -10,13 +10,14 @@ ghost use Rattle.sw_rows.specs.Cells.{HasPlaces};
 ghost use Rattle.sw_rows.specs.Domains.{domain};
 ghost use Rattle.sw_rows.specs.Header.{kinds_of, texts_of};
 ghost use Rattle.sw_histories.specs.RecordText.{Puts, WritesRecord, attribute_text, attributes_data, before_text, behind_text, cell_data, closing_text, entries_data, entry_data, format_of, front_text, has_delete_where, is_delete_where, item_text, items_then, least_format, numbers_text, opening_text, record_text, row_data, rows_data, state_data, texts_data};
+ghost use Rattle.sw_spine.specs.Kept.{state_of};
 
 use serde_json::{Value, json};
 use std::alloc::{AllocError, Global};
 use std::mem;
 use sw_lang::{kind_name, write_all, write_call};
 use sw_rows::{Call, Counted, Kind, PackedRows, Refusal, Row, Schema, Sink};
-use sw_spine::{Entry, Lines, Record, RecordRef, State};
+use sw_spine::{KeptEntry, Lines, Record, RecordRef, StateRef};
 use turned::TurnedText;
 
 /// For how many entries room stands at most, once their text is made.
@@ -86,12 +87,12 @@ pub(crate) fn is_delete_where(call: &Call) -> bool
 }
 
 /// Whether the call of an entry deletes the rows under conditions.
-fn has_delete_where(entries: &[Entry]) -> bool
+fn has_delete_where(entries: &[KeptEntry]) -> bool
     ensures { result ≡ has_delete_where entries.now }
 {
     let mut rest = entries;
     while let Some((entry, later)) = rest.split_first() {
-        if is_delete_where(entry.call.get()) {
+        if is_delete_where(entry.call()) {
             return true;
         }
         rest = later;
@@ -100,7 +101,7 @@ fn has_delete_where(entries: &[Entry]) -> bool
 }
 
 /// The number of the format in which a record of these attributes and entries is written.
-fn format_of(schema: &Schema, entries: &[Entry]) -> u64
+fn format_of(schema: &Schema, entries: &[KeptEntry]) -> u64
     ensures { result ≡ format_of schema.now entries.now }
 {
     if has_delete_where(entries) {
@@ -148,27 +149,27 @@ fn state_value(
     alloc: Global,
     schema: &Schema,
     call: &Call,
-    state: &State,
+    state: StateRef<'_>,
 ) -> Result<Value, AllocError>
-    ensures { IfOk result (λ v. view v ≡ state_data schema.now call.now state.now) }
+    ensures { IfOk result (λ v. view v ≡ state_data schema.now call.now (state_of state.entry)) }
 {
     match state {
-        State::Answered(reply) => {
+        StateRef::Answered(reply) => {
             let lines = Lines::of_reply(alloc, schema, call, reply)?;
             lines_value(alloc, lines.as_slice())
         }
-        State::Lines(lines) => lines_value(alloc, lines.as_slice()),
-        State::Open => Value::try_from_str(alloc, "open"),
-        State::Void => Value::try_from_str(alloc, "void"),
+        StateRef::Lines(lines) => lines_value(alloc, lines.as_slice()),
+        StateRef::Open => Value::try_from_str(alloc, "open"),
+        StateRef::Void => Value::try_from_str(alloc, "void"),
     }
 }
 
-fn entry_value(alloc: Global, schema: &Schema, entry: &Entry) -> Result<Value, AllocError>
+fn entry_value(alloc: Global, schema: &Schema, entry: &KeptEntry) -> Result<Value, AllocError>
     ensures { IfOk result (λ v. view v ≡ entry_data schema.now entry.now) }
 {
-    let call = call_string(alloc, schema, entry.call.get())?;
-    let reply = state_value(alloc, schema, entry.call.get(), &entry.state)?;
-    json!(in alloc; {"call": call, "reply": reply, "session": entry.session})
+    let call = call_string(alloc, schema, entry.call())?;
+    let reply = state_value(alloc, schema, entry.call(), entry.state())?;
+    json!(in alloc; {"call": call, "reply": reply, "session": entry.session()})
 }
 
 /// Puts the text of a value after a text.
@@ -194,7 +195,7 @@ fn put_comma(is_later: bool, text: &mut Vec<u8>) -> Result<(), AllocError>
 fn put_entry(
     alloc: Global,
     schema: &Schema,
-    entry: &Entry,
+    entry: &KeptEntry,
     is_later: bool,
     text: &mut Vec<u8>,
 ) -> Result<(), AllocError>
@@ -209,7 +210,7 @@ fn put_entry(
 fn put_entries(
     alloc: Global,
     schema: &Schema,
-    entries: &[Entry],
+    entries: &[KeptEntry],
     text: &mut Vec<u8>,
 ) -> Result<(), AllocError>
     ensures { Puts result text.old.items text.new.items (compact_text (entries_data schema.now entries.now)) }
@@ -358,7 +359,7 @@ fn text_behind(
 fn put_entry_before(
     alloc: Global,
     schema: &Schema,
-    entry: Entry,
+    entry: KeptEntry,
     is_later: bool,
     text: &mut TurnedText,
 ) -> Result<(), AllocError>
@@ -370,7 +371,7 @@ fn put_entry_before(
 }
 
 /// Gives back the room of entries that were taken, where it is much.
-fn give_back(entries: &mut Vec<Entry>)
+fn give_back(entries: &mut Vec<KeptEntry>)
     ensures { entries.new.items ≡ entries.old.items }
 {
     if entries.capacity() - entries.len() >= SPARE {
@@ -382,7 +383,7 @@ fn give_back(entries: &mut Vec<Entry>)
 fn put_entries_before(
     alloc: Global,
     schema: &Schema,
-    entries: Vec<Entry>,
+    entries: Vec<KeptEntry>,
     text: &mut TurnedText,
 ) -> Result<(), AllocError>
     ensures { OnOk result (text.new ≡ items_then false (map (entry_data schema.now) entries.items) text.old) }
@@ -399,7 +400,7 @@ fn put_entries_before(
 fn record_bytes_out(
     alloc: Global,
     history: &RecordRef<'_>,
-    entries: Vec<Entry>,
+    entries: Vec<KeptEntry>,
 ) -> Result<Vec<u8>, AllocError>
     ensures { IfOk result (λ text. text.items ≡ record_text (record history.now { entries = entries.items })) }
 {

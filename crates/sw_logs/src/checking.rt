@@ -9,7 +9,7 @@ use crate::logged::Logged;
 use crate::order::By;
 use std::alloc::{AllocError, Global};
 use sw_rows::{Call, Reply};
-use sw_spine::{Entry, KeptCall, MOST_SESSIONS, State};
+use sw_spine::{Entry, KeptEntry, MOST_SESSIONS, State};
 
 /// What a call is answered that was given this key or took out so many rows.
 fn reply_of(call: &Call, told: Option<u64>) -> Reply {
@@ -34,16 +34,19 @@ fn state_of(alloc: Global, call: &Logged, told: Option<u64>) -> Result<State, Al
 }
 
 /// The entry of a call.
-fn entry_of(alloc: Global, call: &Logged, told: Option<u64>) -> Result<Entry, AllocError>
+fn entry_of(alloc: Global, call: &Logged, told: Option<u64>) -> Result<KeptEntry, AllocError>
     ensures { IfOk result (IsEntryOf call.now) }
 {
     let state = state_of(alloc, call, told)?;
     let copy = copied_call(alloc, &call.call)?;
-    Ok(Entry {
-        session: call.session,
-        call: KeptCall::new(alloc, copy)?,
-        state,
-    })
+    KeptEntry::new(
+        alloc,
+        Entry {
+            session: call.session,
+            call: copy,
+            state,
+        },
+    )
 }
 
 /// What was told at a place, if anything.
@@ -60,11 +63,11 @@ pub(crate) fn entries_of(
     calls: &[Logged],
     places: &[usize],
     told: &[Option<u64>],
-) -> Result<Vec<Entry>, AllocError>
+) -> Result<Vec<KeptEntry>, AllocError>
     requires { AreNumbersOf calls.now places.now }
     ensures { IfOk result (λ entries. AreEntriesOf calls.now places.now entries.items) }
 {
-    let mut entries: Vec<Entry> = Vec::new(alloc);
+    let mut entries: Vec<KeptEntry> = Vec::new(alloc);
     for place in places {
         let number = *place;
         if entries.reserve(1).is_err() {

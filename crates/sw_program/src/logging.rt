@@ -10,7 +10,7 @@ use sw_commands::Seen;
 use sw_files::begin_file;
 use sw_lang::{write_all, write_call, write_reply};
 use sw_rows::{Call, Counted, Refusal, Reply, Schema, Sink};
-use sw_spine::{Entry, Record, State};
+use sw_spine::{KeptEntry, Record, StateRef};
 
 /// The attribute whose head a call asks, if it is a select.
 fn head_of_call(call: &Call) -> Option<usize> {
@@ -219,17 +219,17 @@ impl<R: Clock + Eprint + Wait + Sync> Onlooker for Watch<'_, '_, R> {
 /// A call that was answered, with when it was made.
 #[derive(Clone, Copy)]
 struct Made<'r> {
-    entry: &'r Entry,
+    entry: &'r KeptEntry,
     reply: &'r Reply,
     start: u64,
     end: u64,
 }
 
 /// The calls of entries that were answered, block after block. Of none is it known when it was made.
-fn answered<'r>(alloc: Global, entries: &'r [Entry]) -> Result<Vec<Made<'r>>, AllocError> {
+fn answered<'r>(alloc: Global, entries: &'r [KeptEntry]) -> Result<Vec<Made<'r>>, AllocError> {
     let mut made = Vec::with_capacity(alloc, entries.len())?;
     for entry in entries {
-        if let State::Answered(reply) = &entry.state {
+        if let StateRef::Answered(reply) = entry.state() {
             made.push(Made {
                 entry,
                 reply,
@@ -238,7 +238,7 @@ fn answered<'r>(alloc: Global, entries: &'r [Entry]) -> Result<Vec<Made<'r>>, Al
             })?;
         }
     }
-    made.sort_by_key(|call| call.entry.session)?;
+    made.sort_by_key(|call| call.entry.session())?;
     Ok(made)
 }
 
@@ -262,7 +262,7 @@ fn call_bytes(alloc: Global, schema: &Schema, call: &Call) -> Result<Vec<u8>, Al
 /// The lines of a reply, without the end of the last.
 fn reply_bytes(alloc: Global, schema: &Schema, made: &Made<'_>) -> Result<Vec<u8>, AllocError> {
     let mut out = Counted::new(Vec::new(alloc));
-    match write_reply(schema, made.entry.call.get(), made.reply, &mut out) {
+    match write_reply(schema, made.entry.call(), made.reply, &mut out) {
         Ok(()) => {
             let mut lines = out.inner;
             let _end = lines.pop();
@@ -280,10 +280,10 @@ fn add_number(alloc: Global, number: u64, record: &mut ByteRecord) -> Result<(),
 /// The record of a call.
 fn record_of(alloc: Global, schema: &Schema, made: &Made<'_>) -> Result<ByteRecord, AllocError> {
     let mut record = ByteRecord::new(alloc);
-    add_number(alloc, made.entry.session, &mut record)?;
+    add_number(alloc, made.entry.session(), &mut record)?;
     add_number(alloc, made.start, &mut record)?;
     add_number(alloc, made.end, &mut record)?;
-    record.push_field(call_bytes(alloc, schema, made.entry.call.get())?.as_slice())?;
+    record.push_field(call_bytes(alloc, schema, made.entry.call())?.as_slice())?;
     record.push_field(reply_bytes(alloc, schema, made)?.as_slice())?;
     Ok(record)
 }

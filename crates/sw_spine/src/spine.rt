@@ -11,7 +11,7 @@ ghost use Rattle.sw_spine.specs.Listed.{met};
 ghost use Rattle.sw_query.specs.declared.query.Call.TheVariants.{Select, Insert, Delete, DeleteWhere};
 ghost use Rattle.sw_query.specs.declared.refusal.Refusal.TheVariants.{NoMemory};
 ghost use Rattle.sw_spine.specs.Table.{inserted, is_numbered, removed, reply_to, updates_then};
-ghost use Rattle.sw_spine.specs.History.{CallsBelow, IsLegal, IsSound, all_given, is_absent, is_select, mine, open_place, settled};
+ghost use Rattle.sw_spine.specs.History.{CallsBelow, IsLegal, IsSound, all_given, is_absent, is_given, is_select, mine, open_place, settled};
 ghost use Rattle.sw_spine.specs.Receivable.{AreUpdates};
 ghost use Rattle.sw_spine.specs.Rest.{none_open};
 ghost use Rattle.sw_rows.specs.declared.table.TheConstants.{MOST_ROWS};
@@ -19,7 +19,7 @@ ghost use Rattle.sw_spine.specs.Books.{HasAnswered, HasBegun, HasOneMore, IsCoun
 ghost use Rattle.sw_spine.specs.declared.history.State.TheVariants.{Answered, Void};
 
 use crate::given::Given;
-use crate::history::{Entry, KeptCall, KeptQuery, Record, RecordRef, State};
+use crate::history::{KeptCall, KeptEntry, KeptQuery, Record, RecordRef, State};
 use crate::room::make_room;
 use crate::store::Store;
 use std::alloc::{AllocError, Global};
@@ -43,7 +43,7 @@ pub const MOST_SESSIONS: usize = 1024;
 pub struct Spine {
     schema: Schema,
     store: Store,
-    entries: Vec<Entry>,
+    entries: Vec<KeptEntry>,
     /// For each session the place of its open entry.
     places: Vec<Option<usize>>,
     taken: [usize; 8],
@@ -101,31 +101,29 @@ fn removed(found: bool) -> Reply
 }
 
 /// Adds the entries of queries that a session was answered, for which there is room.
-fn push_told(entries: &mut Vec<Entry>, session: u64, told: Vec<(KeptQuery, Reply)>)
-    requires { vec_len entries.old + length told.items ≤ vec_capacity entries.old }
+fn push_told(entries: &mut Vec<KeptEntry>, session: u64, told: Vec<(KeptQuery, Reply)>)
+    requires few { session ≤ MOST_SESSIONS }
+    requires room { vec_len entries.old + length told.items ≤ vec_capacity entries.old }
     ensures { entries.new.items ≡ entries.old.items ++ map (told_entry session) told.items }
 {
     for one in told {
         let (query, reply) = one;
-        entries.push_reserved(Entry {
-            session,
-            call: query.into_call(),
-            state: State::Answered(reply),
-        });
+        entries.push_reserved(query.into_call().answered(session, reply));
     }
 }
 
 /// Changes the state of a session's open entry.
-fn settle(entries: &mut Vec<Entry>, places: &mut Vec<Option<usize>>, session: u64, state: State)
+fn settle(entries: &mut Vec<KeptEntry>, places: &mut Vec<Option<usize>>, session: u64, state: State)
     requires place { slice_index_or places.old.items (session - 1) None ≡ open_place session entries.old.items }
     requires some { 0 < session }
     requires slot { session - 1 < length places.old.items }
+    requires given { is_given state ≡ true }
     ensures entries { entries.new.items ≡ settled session state entries.old.items }
     ensures places { places.new.items ≡ slice_set places.old.items (session - 1) None }
 {
     let slot = &mut places[(session - 1) as usize];
     if let Some(place) = slot.take() {
-        entries[place].state = state;
+        entries[place].settle(state);
     }
 }
 
@@ -205,7 +203,7 @@ impl Spine {
     }
 
     /// The history so far, which is sound and legal, with entries of opened sessions alone and no reply as lines.
-    pub fn entries(&self) -> &[Entry]
+    pub fn entries(&self) -> &[KeptEntry]
         ensures entries { result.now ≡ self.now.entries }
         ensures sound { IsSound (history_of self.now) }
         ensures legal { IsLegal (history_of self.now) }
@@ -335,16 +333,13 @@ impl Spine {
         ensures ok { OnOk result (HasBegun session query head self.old self.new inbox.old.items inbox.new.items) }
         ensures err { OnErr result ((self.new ≡ self.old) × (inbox.new.items ≡ inbox.old.items)) }
     {
-        make_room(&mut self.entries, 1, size_of::<Entry>())?;
+        make_room(&mut self.entries, 1, size_of::<KeptEntry>())?;
         let from = self.taken[head];
         let call = KeptCall::new(*self.entries.allocator(), Call::Select(query))?;
         inbox.extend_from_slice(self.store.since(from))?;
         let place = self.entries.len();
-        self.entries.push_reserved(Entry {
-            session,
-            call,
-            state: State::Open,
-        });
+        let entry = call.opened(session);
+        self.entries.push_reserved(entry);
         self.places[(session - 1) as usize] = Some(place);
         self.taken[head] = self.store.count();
         Ok(())
@@ -437,12 +432,9 @@ impl Spine {
         ensures answered { OnOk result (self.new ≡ with_answered session (Select query) self.old) }
         ensures refused { OnErr result (self.new ≡ self.old) }
     {
-        make_room(&mut self.entries, 1, size_of::<Entry>())?;
-        self.entries.push_reserved(Entry {
-            session,
-            call: query.into_call(),
-            state: State::Answered(reply),
-        });
+        make_room(&mut self.entries, 1, size_of::<KeptEntry>())?;
+        let entry = query.into_call().answered(session, reply);
+        self.entries.push_reserved(entry);
         Ok(())
     }
 
@@ -491,7 +483,7 @@ impl Spine {
         ensures answered { OnOk result (self.new ≡ with_all_answered session told.items self.old) }
         ensures refused { OnErr result (self.new ≡ self.old) }
     {
-        make_room(&mut self.entries, told.len(), size_of::<Entry>())?;
+        make_room(&mut self.entries, told.len(), size_of::<KeptEntry>())?;
         push_told(&mut self.entries, session, told);
         Ok(())
     }
@@ -592,14 +584,11 @@ impl Spine {
         requires room { length self.old.entries < MOST_ENTRIES }
         ensures { MatchResult result (HasAnswered session (Insert cells) self.old self.new) (λ _. self.new ≡ self.old) }
     {
-        make_room(&mut self.entries, 1, size_of::<Entry>())?;
+        make_room(&mut self.entries, 1, size_of::<KeptEntry>())?;
         let call = KeptCall::new(*self.entries.allocator(), Call::Insert(cells))?;
         let given = self.store.insert(cells)?;
-        self.entries.push_reserved(Entry {
-            session,
-            call,
-            state: State::Answered(inserted(given)),
-        });
+        let entry = call.answered(session, inserted(given));
+        self.entries.push_reserved(entry);
         Ok(inserted(given))
     }
 
@@ -609,14 +598,11 @@ impl Spine {
         requires room { length self.old.entries < MOST_ENTRIES }
         ensures { MatchResult result (HasAnswered session (Delete key) self.old self.new) (λ _. self.new ≡ self.old) }
     {
-        make_room(&mut self.entries, 1, size_of::<Entry>())?;
+        make_room(&mut self.entries, 1, size_of::<KeptEntry>())?;
         let call = KeptCall::new(*self.entries.allocator(), Call::Delete(key))?;
         let found = self.store.delete(key)?;
-        self.entries.push_reserved(Entry {
-            session,
-            call,
-            state: State::Answered(removed(found)),
-        });
+        let entry = call.answered(session, removed(found));
+        self.entries.push_reserved(entry);
         Ok(removed(found))
     }
 
@@ -631,17 +617,14 @@ impl Spine {
     {
         // for the prover: there are eight attributes at most
         let _width = self.schema.len();
-        make_room(&mut self.entries, 1, size_of::<Entry>())?;
+        make_room(&mut self.entries, 1, size_of::<KeptEntry>())?;
         let call = KeptCall::new(*self.entries.allocator(), Call::DeleteWhere(conds))?;
         let many = match call.get() {
             Call::DeleteWhere(conds) => self.store.delete_where(conds.as_slice())?,
             _ => unreachable!(),
         };
-        self.entries.push_reserved(Entry {
-            session,
-            call,
-            state: State::Answered(Reply::RemovedMany(many)),
-        });
+        let entry = call.answered(session, Reply::RemovedMany(many));
+        self.entries.push_reserved(entry);
         Ok(Reply::RemovedMany(many))
     }
 

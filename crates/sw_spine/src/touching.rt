@@ -89,13 +89,13 @@ impl Record {
         let Ok(mut replay) = Replay::new(alloc, &self.rows, self.limit) else {
             return Err(Refusal::NoMemory);
         };
-        let asked = Asked::of(self.entries[place].call.get());
+        let asked = Asked::of(self.entries[place].call());
         let mut places: Vec<usize> = Vec::new(alloc);
         for (i, entry) in self.entries.iter().enumerate() {
             if i >= place {
                 break;
             }
-            if make_watched(&self.schema, &mut replay, entry.call.get(), asked)?
+            if make_watched(&self.schema, &mut replay, entry.call(), asked)?
                 && places.push(i).is_err()
             {
                 return Err(Refusal::NoMemory);

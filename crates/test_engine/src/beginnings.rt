@@ -2,7 +2,7 @@
 
 use std::alloc::{AllocError, Global};
 use sw_rows::{Call, Cond, Reply, is_within};
-use sw_spine::{Entry, Record, State};
+use sw_spine::{KeptEntry, Record, StateRef};
 
 /// What a viewer was answered, a count or a sum, and how many updates the receipt has that it had learnt last, 0 for none.
 #[derive(Clone, Copy)]
@@ -83,14 +83,14 @@ impl Beginnings {
     }
 
     /// An entry of the history, which changes rows where it inserted one, removed one, or removed those that met conditions.
-    fn add(&mut self, entry: &Entry) -> Result<(), AllocError> {
-        match (entry.call.get(), &entry.state) {
-            (Call::Insert(cells), State::Answered(Reply::Inserted(_))) => {
+    fn add(&mut self, entry: &KeptEntry) -> Result<(), AllocError> {
+        match (entry.call(), entry.state()) {
+            (Call::Insert(cells), StateRef::Answered(Reply::Inserted(_))) => {
                 self.insert(*cells)?;
                 self.last.updates = self.last.updates.wrapping_add(1);
             }
-            (Call::Delete(key), State::Answered(Reply::Removed)) => self.remove(*key),
-            (Call::DeleteWhere(conds), State::Answered(Reply::RemovedMany(_))) => {
+            (Call::Delete(key), StateRef::Answered(Reply::Removed)) => self.remove(*key),
+            (Call::DeleteWhere(conds), StateRef::Answered(Reply::RemovedMany(_))) => {
                 self.remove_where(conds.as_slice());
             }
             _ => return Ok(()),

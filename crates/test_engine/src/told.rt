@@ -5,7 +5,7 @@ use std::alloc::{AllocError, Global};
 use std::sync::atomic::Ordering;
 use sw_cli::{check_file, write_record};
 use sw_rows::{Call, Counted, Refusal, Reply, ReplyRows, TextKey};
-use sw_spine::{Record, State};
+use sw_spine::{Record, StateRef};
 use test_maps::Counts;
 
 /// What was made, or the refusal that there is no memory.
@@ -53,8 +53,8 @@ pub(crate) fn show(text: &mut String, reply: &Reply) -> Result<(), AllocError> {
 /// Tells the replies to a session, in the record's order.
 fn tell_session(text: &mut String, record: &Record, session: u64) -> Result<(), AllocError> {
     for entry in record.entries.as_slice() {
-        if entry.session == session {
-            if let State::Answered(reply) = &entry.state {
+        if entry.session() == session {
+            if let StateRef::Answered(reply) = entry.state() {
                 text.push_str("; ")?;
                 show(text, reply)?;
             }
@@ -103,11 +103,11 @@ fn are_made(
 ) -> Result<bool, AllocError> {
     let mut rest = calls;
     for entry in record.entries.as_slice() {
-        if entry.session == session && !matches!(entry.state, State::Void) {
+        if entry.session() == session && !matches!(entry.state(), StateRef::Void) {
             let Some((call, later)) = rest.split_first() else {
                 return Ok(false);
             };
-            if !is_same_call(alloc, entry.call.get(), call)? {
+            if !is_same_call(alloc, entry.call(), call)? {
                 return Ok(false);
             }
             rest = later;
@@ -131,7 +131,7 @@ fn are_all_made(alloc: Global, record: &Record, blocks: &[Vec<Call>]) -> Result<
 fn voided(record: &Record) -> usize {
     let mut many = 0usize;
     for entry in record.entries.as_slice() {
-        if let State::Void = entry.state {
+        if let StateRef::Void = entry.state() {
             many = many.wrapping_add(1);
         }
     }

@@ -15,7 +15,7 @@ use sw_engine::{Blank, Engine, Naming, Ticket};
 use sw_lang::Cuts;
 use sw_map::CrackerMap;
 use sw_rows::{PackedRows, Refusal, Row, Schema};
-use sw_spine::{Record, State};
+use sw_spine::{Record, StateRef};
 
 /// What an engine is opened over.
 #[derive(Drop)]
@@ -76,7 +76,7 @@ fn supply_again<J: Naming, M: CrackerMap, R: Print + Wait>(
 fn voided(record: &Record) -> usize {
     let mut many = 0usize;
     for entry in record.entries.as_slice() {
-        if let State::Void = entry.state {
+        if let StateRef::Void = entry.state() {
             many = many.wrapping_add(1);
         }
     }

@@ -14,7 +14,7 @@ use sw_rows::{
     Call, Counted, PackedRows, Query, Refusal, Reply, Row, Schema, TextKey, Update, answer,
     update_all,
 };
-use sw_spine::{Entry, Record, Spine, State};
+use sw_spine::{KeptEntry, Record, Spine, StateRef};
 
 /// What was told so far.
 pub(crate) type Text = Counted<Vec<u8>>;
@@ -130,7 +130,7 @@ fn change(
     let call = call_of(alloc, spine.schema(), line)?;
     let reply = committed(spine, rows, call)?;
     match spine.entries().last() {
-        Some(entry) => write_reply(spine.schema(), entry.call.get(), &reply, text),
+        Some(entry) => write_reply(spine.schema(), entry.call(), &reply, text),
         None => Err(Refusal::Input),
     }
 }
@@ -245,26 +245,26 @@ pub(crate) fn give_up(
     ensures { OnOk result (IsAtRest spine.new rows.now) }
 {
     spine.begin(2, query, 7, inbox)?;
-    let was_open = matches!(last(spine), Some(State::Open));
+    let was_open = matches!(last(spine), Some(StateRef::Open));
     spine.void(2);
-    Ok(was_open && matches!(last(spine), Some(State::Void)))
+    Ok(was_open && matches!(last(spine), Some(StateRef::Void)))
 }
 
 /// The state of the last entry, if there is one.
-fn last(spine: &Spine) -> Option<&State> {
+fn last(spine: &Spine) -> Option<StateRef<'_>> {
     match spine.entries().last() {
-        Some(entry) => Some(&entry.state),
+        Some(entry) => Some(entry.state()),
         None => None,
     }
 }
 
 /// Tells the state of an entry.
-fn tell_state(schema: &Schema, entry: &Entry, text: &mut Text) -> Result<(), Refusal> {
-    match &entry.state {
-        State::Answered(reply) => write_reply(schema, entry.call.get(), reply, text),
-        State::Lines(_) => write_all(text, b"lines\n"),
-        State::Open => write_all(text, b"open\n"),
-        State::Void => write_all(text, b"void\n"),
+fn tell_state(schema: &Schema, entry: &KeptEntry, text: &mut Text) -> Result<(), Refusal> {
+    match entry.state() {
+        StateRef::Answered(reply) => write_reply(schema, entry.call(), reply, text),
+        StateRef::Lines(_) => write_all(text, b"lines\n"),
+        StateRef::Open => write_all(text, b"open\n"),
+        StateRef::Void => write_all(text, b"void\n"),
     }
 }
 

@@ -196,7 +196,7 @@ fn has_one_entry(spine: &Spine) -> bool {
         && record
             .entries
             .first()
-            .is_some_and(|entry| entry.session == 1)
+            .is_some_and(|entry| entry.session() == 1)
         && record.rows.len() == 4
         && record.limit == 1048576
 }

@@ -23,7 +23,7 @@ use std::snapshot::Snapshot;
 use sw_chunks::Waiting;
 use sw_map::CrackerMap;
 use sw_rows::{Call, PackedRows, Query, Refusal, Reply, Update};
-use sw_spine::{Entry, KeptQuery, MOST_SESSIONS, Spine};
+use sw_spine::{KeptEntry, KeptQuery, MOST_SESSIONS, Spine};
 use sw_tie::{Book, Share};
 use sw_versions::{Naming, Opened};
 
@@ -62,12 +62,12 @@ impl Blank {
 }
 
 /// The place of a session's last entry.
-fn last_of(entries: &[Entry], session: u64) -> Option<u64>
+fn last_of(entries: &[KeptEntry], session: u64) -> Option<u64>
     ensures { IsLastOwn session entries.now result }
 {
     for behind in 0..entries.len() {
         let place = entries.len() - 1 - behind;
-        if entries[place].session == session {
+        if entries[place].session() == session {
             return Some(place as u64);
         }
     }

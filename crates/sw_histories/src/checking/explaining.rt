@@ -11,7 +11,7 @@ use crate::writing::call_string;
 use std::alloc::{AllocError, Global};
 use sw_lang::write_all;
 use sw_rows::{Refusal, Reply, Schema, Sink, TextKey};
-use sw_spine::{Entry, Lines, Record, State};
+use sw_spine::{KeptEntry, Lines, Record, StateRef};
 
 /// How many entries are named that changed rows, at most.
 const MOST_CHANGES: usize = 3;
@@ -21,14 +21,14 @@ fn entry_line(
     alloc: Global,
     schema: &Schema,
     place: u64,
-    entry: &Entry,
+    entry: &KeptEntry,
 ) -> Result<String, AllocError>
     ensures { IfOk result (λ text. string_bytes text ≡ entry_line schema.now place entry.now) }
 {
-    let call = call_string(alloc, schema, entry.call.get())?;
+    let call = call_string(alloc, schema, entry.call())?;
     format!(in alloc;
         "entry {place}, session {}: {}\n",
-        entry.session,
+        entry.session(),
         call.as_str()
     )
 }
@@ -58,18 +58,18 @@ fn parting(alloc: Global, given: &Lines, listed: &Lines) -> Result<String, Alloc
 fn parting_of(
     alloc: Global,
     schema: &Schema,
-    entry: &Entry,
+    entry: &KeptEntry,
     listed: &Lines,
 ) -> Result<String, AllocError>
     ensures { IfOk result (λ text. ShowsPartingOf schema.now entry.now listed.now (string_bytes text)) }
 {
-    match &entry.state {
-        State::Answered(reply) => {
-            let lines = Lines::of_reply(alloc, schema, entry.call.get(), reply)?;
+    match entry.state() {
+        StateRef::Answered(reply) => {
+            let lines = Lines::of_reply(alloc, schema, entry.call(), reply)?;
             parting(alloc, &lines, listed)
         }
-        State::Lines(lines) => parting(alloc, lines, listed),
-        State::Open | State::Void => parting(alloc, &Lines::of(Vec::new(alloc)), listed),
+        StateRef::Lines(lines) => parting(alloc, lines, listed),
+        StateRef::Open | StateRef::Void => parting(alloc, &Lines::of(Vec::new(alloc)), listed),
     }
 }
 
@@ -109,7 +109,7 @@ fn explanation_text(
 {
     let schema = &history.schema;
     let entry = &history.entries[(place - 1) as usize];
-    let lines = Lines::of_reply(alloc, schema, entry.call.get(), listed)?;
+    let lines = Lines::of_reply(alloc, schema, entry.call(), listed)?;
     let named = entry_line(alloc, schema, place, entry)?;
     let parted = parting_of(alloc, schema, entry, &lines)?;
     let more = changes_text(alloc, history, changes)?;

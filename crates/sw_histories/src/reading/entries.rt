@@ -1,6 +1,6 @@
 //! Entries of a history.
 
-ghost use Rattle.std.specs.Prelude.{◌≡◌, ◌≤◌, [], Some, None, length, map, option_map, string_bytes, IfErr, IfOk, OnOk};
+ghost use Rattle.std.specs.Prelude.{◌≡◌, ◌≤◌, [], Some, None, length, map, option_map, string_bytes, IfErr, IfOk, IsOkUnless, OnOk};
 ghost use Rattle.json.specs.Lex.{tokens};
 ghost use Rattle.serde_json.specs.Data.{object};
 ghost use Rattle.serde_json.specs.View.{view};
@@ -22,7 +22,7 @@ use serde_json::Value;
 use std::alloc::{AllocError, Global};
 use sw_lang::parse_line;
 use sw_rows::{Call, Refusal, Schema};
-use sw_spine::{Entry, KeptCall, Lines, MOST_SESSIONS, State};
+use sw_spine::{Entry, KeptEntry, Lines, MOST_SESSIONS, State};
 
 /// The text of an entry's call, where the entry has just the members of one.
 fn text_of_call<'a>(value: &'a Value) -> Option<&'a str>
@@ -126,6 +126,17 @@ fn read_state(alloc: Global, call: &Call, value: &Value) -> Result<Option<State>
     }
 }
 
+/// An entry to be kept. The one refusal is `NoMemory`.
+fn kept(alloc: Global, entry: Entry) -> Result<KeptEntry, Refusal>
+    ensures kept { IfOk result (λ kept. kept ≡ entry) }
+    ensures refused { IsOkUnless result Refusal.NoMemory }
+{
+    match KeptEntry::new(alloc, entry) {
+        Ok(kept) => Ok(kept),
+        Err(_) => Err(Refusal::NoMemory),
+    }
+}
+
 /// The entry of a line in a file of this format: its members are looked at first, then its call, whose texts are made
 /// known, then its session and its reply.
 fn read_entry(
@@ -134,7 +145,7 @@ fn read_entry(
     schema: &mut Schema,
     line: u32,
     value: &Value,
-) -> Result<Entry, Refusal>
+) -> Result<KeptEntry, Refusal>
     ensures answers { Reads (λ e. e) result (entry_in format schema.old line (view value.now)) }
     ensures learned { OnOk result (schema.new ≡ entry_learned schema.old (view value.now)) }
     ensures below { IfOk result (λ e. CallsBelow (length schema.new) e.call) }
@@ -151,14 +162,14 @@ fn read_entry(
         return Err(no_history(line));
     };
     match read_state(alloc, &call, value) {
-        Ok(Some(state)) => match KeptCall::new(alloc, call) {
-            Ok(call) => Ok(Entry {
+        Ok(Some(state)) => kept(
+            alloc,
+            Entry {
                 session,
                 call,
                 state,
-            }),
-            Err(_) => Err(Refusal::NoMemory),
-        },
+            },
+        ),
         Ok(None) => Err(no_history(line)),
         Err(_) => Err(Refusal::NoMemory),
     }
@@ -171,7 +182,7 @@ fn take_entry(
     schema: &mut Schema,
     line: u32,
     value: Value,
-) -> Result<Entry, Refusal>
+) -> Result<KeptEntry, Refusal>
     ensures answers { Reads (λ e. e) result (entry_in format schema.old line (view value)) }
     ensures learned { OnOk result (schema.new ≡ entry_learned schema.old (view value)) }
     ensures below { IfOk result (λ e. CallsBelow (length schema.new) e.call) }
@@ -187,14 +198,14 @@ fn read_entries(
     format: u64,
     schema: &mut Schema,
     reader: &mut Reader<'_>,
-) -> Result<Vec<Entry>, Refusal>
+) -> Result<Vec<KeptEntry>, Refusal>
     requires { AreFew (values_in reader.old) }
     ensures answers { ReadsEntries format schema.old schema.new (values_in reader.old) result }
     ensures below { IfOk result (λ entries. AllBelow (length schema.new) entries.items) }
     ensures few { IfOk result (λ entries. length entries.items ≤ MOST_ENTRIES) }
     ensures why { IfErr result TellsText }
 {
-    let mut entries: Vec<Entry> = Vec::new(alloc);
+    let mut entries: Vec<KeptEntry> = Vec::new(alloc);
     'entries: while !reader.take_end_array() {
         let value = match read(alloc, reader, 125) {
             Ok(value) => value,
@@ -222,7 +233,7 @@ pub(super) fn read_entries_at(
     text: &str,
     scratch: &mut Scratch,
     place: usize,
-) -> Result<Vec<Entry>, Refusal>
+) -> Result<Vec<KeptEntry>, Refusal>
     requires { AreFew (values_at place (tokens text.now)) }
     ensures answers { ReadsEntries format schema.old schema.new (values_at place (tokens text.now)) result }
     ensures below { IfOk result (λ entries. AllBelow (length schema.new) entries.items) }

@@ -13,7 +13,7 @@ make_watched-requires c =
     let lt : c.loop-i.i < length s.entries.items = search rules in
     let is : c.entry-item.result ≡ get_or s.entries.items c.loop-i.i c.entry-item.result = search rules in
     let below : CallsBelow (length s.schema) (get_or s.entries.items c.loop-i.i c.entry-item.result).call = below_at (length s.schema) s.entries.items c.loop-i.i c.entry-item.result c.self.invariant.below lt in
-    subst (CallsBelow (length s.schema)) (sym c.get-in-loop-i.ensures) (subst (λ e. CallsBelow (length s.schema) e.call) (sym is) below)
+    subst (CallsBelow (length s.schema)) (sym c.call-in-loop-i.ensures) (subst (λ e. CallsBelow (length s.schema) e.call) (sym is) below)
 
 -- after a push that was made, or was not for want of memory
 all-below : (n : ℕ) (made : Bool) (old new : List ℕ) (i : ℕ) → new ≡ (if made then old ++ i ∷ [] else old) → All (λ k. k < n) old → i < n → All (λ k. k < n) new

@@ -11,7 +11,7 @@ make_call-requires c =
     let lt : c.loop-i.i < length s.entries.items = search rules in
     let is : c.entry-item.result ≡ get_or s.entries.items c.loop-i.i c.entry-item.result = search rules in
     let below : CallsBelow (length s.schema) (get_or s.entries.items c.loop-i.i c.entry-item.result).call = below_at (length s.schema) s.entries.items c.loop-i.i c.entry-item.result c.self.invariant.below lt in
-    record { asks = subst (CallsBelow (length s.schema)) (sym c.get.ensures) (subst (λ e. CallsBelow (length s.schema) e.call) (sym is) below) }
+    record { asks = subst (CallsBelow (length s.schema)) (sym c.call.ensures) (subst (λ e. CallsBelow (length s.schema) e.call) (sym is) below) }
 
 pub returns-then-i-place-clause-listed : goal.returns-then-i-place-clause-listed
 returns-then-i-place-clause-listed c =
@@ -20,7 +20,7 @@ returns-then-i-place-clause-listed c =
     let us = updates_after h.limit (opened h.rows) (take c.loop-i.i h.entries) in
     let lt : c.loop-i.i < length h.entries = search rules in
     let is : e ≡ get_or h.entries c.loop-i.i e = search rules in
-    expected_is h c.loop-i.i c.args.place e c.loop-i.replay.limit c.in_ok-reply.reply lt is c.loop-i.invariant.0 c.if-i-place.true ((c.in_ok-reply.ensures.made us c.loop-i.invariant.2).0 ∙ ap (λ k. reply_to c.loop-i.replay.limit us k) c.get.ensures)
+    expected_is h c.loop-i.i c.args.place e c.loop-i.replay.limit c.in_ok-reply.reply lt is c.loop-i.invariant.0 c.if-i-place.true ((c.in_ok-reply.ensures.made us c.loop-i.invariant.2).0 ∙ ap (λ k. reply_to c.loop-i.replay.limit us k) c.call.ensures)
 
 pub loop-i-preserved : goal.loop-i-preserved
 loop-i-preserved c =
@@ -31,7 +31,7 @@ loop-i-preserved c =
     let is : e ≡ get_or h.entries c.loop-i.i e = search rules in
     let stands : StandsAfter (updates_then h.limit us e.call) c.make_call.new.replay =
     subst (λ n. StandsAfter (updates_then n us e.call) c.make_call.new.replay) c.loop-i.invariant.0
-    (subst (λ k. StandsAfter (updates_then c.loop-i.replay.limit us k) c.make_call.new.replay) c.get.ensures (c.in_ok-reply.ensures.made us c.loop-i.invariant.2).1) in
+    (subst (λ k. StandsAfter (updates_then c.loop-i.replay.limit us k) c.make_call.new.replay) c.call.ensures (c.in_ok-reply.ensures.made us c.loop-i.invariant.2).1) in
     let below : c.loop-i.i + 1 ≤ c.args.place = search rules in (
       c.make_call.ensures.limit ∙ c.loop-i.invariant.0,
       below,

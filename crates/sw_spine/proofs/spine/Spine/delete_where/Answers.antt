@@ -23,5 +23,5 @@ invariant_of-self-2 c =
     let asked = c.as_slice.ensures ∙ same in
     let done = rw asked at c.in_ok-many-in-DeleteWhere.ensures in
     let grown : c.push_reserved.new.self.items ≡ s.entries.items ++ entry c.args.session (DeleteWhere conds) (Answered (reply_to s.store.limit (all_updates s.store) (DeleteWhere conds))) ∷ [] =
-    c.push_reserved.ensures.items ∙ (ap (λ k. c.make_room.new.list.items ++ entry c.args.session k (Answered (RemovedMany c.in_ok-many-in-DeleteWhere.many)) ∷ []) c.in_ok-call.ensures ∙ ap (λ es. es ++ entry c.args.session (DeleteWhere conds) (Answered (RemovedMany c.in_ok-many-in-DeleteWhere.many)) ∷ []) c.in_ok-make_room.ensures.items ∙ ap (λ r. s.entries.items ++ entry c.args.session (DeleteWhere conds) (Answered r) ∷ []) done.0) in
+    c.push_reserved.ensures.items ∙ (ap (λ k. c.make_room.new.list.items ++ k ∷ []) (c.answered-entry.ensures ∙ ap (λ k. entry c.args.session k (Answered (RemovedMany c.in_ok-many-in-DeleteWhere.many))) c.in_ok-call.ensures) ∙ ap (λ es. es ++ entry c.args.session (DeleteWhere conds) (Answered (RemovedMany c.in_ok-many-in-DeleteWhere.many)) ∷ []) c.in_ok-make_room.ensures.items ∙ ap (λ r. s.entries.items ++ entry c.args.session (DeleteWhere conds) (Answered r) ∷ []) done.0) in
     rw (grown, done.1) (kept_answered s.schema s.store s.entries.items s.taken s.sessions s.published s.places.items c.args.session (DeleteWhere conds) c.self.invariant opened rest below short)
