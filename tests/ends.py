@@ -77,7 +77,7 @@ class Ends:
     # A history file is the old one or the new one
 
     def killed_runs(self):
-        """A run is killed at moments from its beginning to its end. At some of them what is begun stands beside the history."""
+        """A run is killed at moments from its beginning to its end, and the last one is not. At some of them what is begun stands beside the history."""
         self.put("long.txt", SCRIPT * 6000)
         words = ["run", "--table", "t.csv", "--script", "long.txt", "--history", "h.json"]
         began = time.time()
@@ -89,7 +89,8 @@ class Ends:
             with open(self.folder / "out", "wb") as out:
                 child = subprocess.Popen([self.program] + words, cwd=self.folder, stdout=out, stderr=subprocess.DEVNULL)
                 try:
-                    child.wait(lasts * (0.2 + at / KILLS))
+                    # (the last one ends, however slow the machine is by then)
+                    child.wait(lasts * (0.2 + at / KILLS) if at + 1 < KILLS else None)
                 except subprocess.TimeoutExpired:
                     child.kill()
                 child.wait()
