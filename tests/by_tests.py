@@ -63,8 +63,8 @@ BODIES = {
                                  "sw_set/src/prepare/making.rt", "ensure_map(area, tails, tails[i], cells)?;",
                                  "ensure_map(area, tails, tails[if i == 0 { 0 } else { tails.len() - i }], cells)?;", "test_areas"),
     "one_refused_stops_all": ("Of maps that are stepped one after the other none is stepped after one that was refused",
-                              "sw_set/src/prepare/at_once.rt", "    step_in_turn(attribute, rest, tails, tape);\n",
-                              "    for it in rest.iter_mut() {\n        if align_box(attribute, it, tails, tape).is_err() {\n"
+                              "sw_set/src/prepare/at_once.rt", "    step_in_turn(rest, course);\n",
+                              "    for it in rest.iter_mut() {\n        if align_box(it, course).is_err() {\n"
                               "            return;\n        }\n    }\n", "test_areas"),
     "asked_a_third_time": ("An area that is short again is asked a third time",
                            "sw_chunks/src/answering.rt", "        told = ready_again(align, &mut areas[k], query);\n",

@@ -29,51 +29,48 @@ pub fn end_before(marks: &[Mark], k: usize, n: usize) -> usize
     if k < marks.len() { marks[k].at } else { n }
 }
 
-/// If the piece from `at` up to `end` has an item, its first makes room for the carried one and is carried on.
+/// If the piece from `at` up to `end` has an item, its first makes room for the one in hand and is taken in hand.
 #[inline]
 fn hand_over(
     head: &mut [i64],
     tail: &mut [i64],
     at: usize,
     end: usize,
-    h: i64,
-    t: i64,
+    hand: (i64, i64),
 ) -> (i64, i64)
     requires lengths { length head.old ≡ length tail.old }
     requires room { end ≤ length head.old }
-    ensures pairs { zip head.new tail.new ≡ put_first at end (h, t) (zip head.old tail.old) }
-    ensures carried { (result.0, result.1) ≡ first_or at end (h, t) (zip head.old tail.old) }
+    ensures pairs { zip head.new tail.new ≡ put_first at end hand (zip head.old tail.old) }
+    ensures carried { result ≡ first_or at end hand (zip head.old tail.old) }
 {
     if at < end {
         let next = (head[at], tail[at]);
-        head[at] = h;
-        tail[at] = t;
+        head[at] = hand.0;
+        tail[at] = hand.1;
         next
     } else {
-        (h, t)
+        hand
     }
 }
 
-/// Carries an item on from the k-th mark, and answers the one that is left in hand.
+/// Carries the item in hand on from the `from`-th mark, and answers the one that is left in hand.
 fn carry_on(
     head: &mut [i64],
     tail: &mut [i64],
     marks: &[Mark],
     from: usize,
-    h: i64,
-    t: i64,
+    mut hand: (i64, i64),
 ) -> (i64, i64)
     requires lengths { length head.old ≡ length tail.old }
     requires range { All (λ (m : Mark). m.at ≤ length head.old) marks.now }
     requires from { from ≤ length marks.now }
-    ensures { AreCarried from marks.now (h, t) head.old tail.old head.new tail.new (result.0, result.1) }
+    ensures { AreCarried from marks.now hand head.old tail.old head.new tail.new result }
 {
     let n = head.len();
-    let mut hand = (h, t);
     for k in from..marks.len() {
         let at = marks[k].at;
         let end = end_before(marks, k + 1, n);
-        hand = hand_over(head, tail, at, end, hand.0, hand.1);
+        hand = hand_over(head, tail, at, end, hand);
     }
     hand
 }
@@ -113,7 +110,7 @@ pub fn ripple_in(head: &mut Vec<i64>, tail: &mut Vec<i64>, marks: &mut [Mark], h
     ensures capacity { KeepsRoom head.old head.new × KeepsRoom tail.old tail.new }
 {
     let from = piece_of(marks, h);
-    let (x, y) = carry_on(head, tail, marks, from, h, t);
+    let (x, y) = carry_on(head, tail, marks, from, (h, t));
     bump(marks, from);
     append(head, x);
     append(tail, y);

@@ -16,6 +16,7 @@ ghost use Rattle.sw_set.specs.Sought.{AreAllNeeded};
 
 pub(crate) mod align;
 pub(crate) mod at_once;
+pub(crate) mod course;
 pub(crate) mod in_turn;
 pub(crate) mod lacking;
 pub(crate) mod making;

@@ -18,9 +18,9 @@ state_by outcome.Open r = state.Open
 state_by outcome.Void r = state.Void
 
 -- the entry that is kept
-abbrev pub entry_in : Kept → Entry
-entry_in (kept.Short e) = entry e.value.session e.value.call (state_by e.value.outcome e.value.reply)
-entry_in (kept.Long e) = e.value
+abbrev pub kept_entry : Kept → Entry
+kept_entry (kept.Short e) = entry e.value.session e.value.call (state_by e.value.outcome e.value.reply)
+kept_entry (kept.Long e) = e.value
 
 -- the state that is read where it stands
 abbrev pub state_of : StateRef → State

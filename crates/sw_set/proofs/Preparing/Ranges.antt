@@ -271,6 +271,10 @@ prepared-runs q x from upto w head p =
       behind = λ k d lt. untouched-first x q.conds (get_or (shown_rows x.attribute x.tape) k d) head e (all-within x w k d lt);
     }
 
+-- the same of what such an area has inside
+pub shown-runs : (q : Query) (v x : AreaState) (from upto : ℕ) → v ≡ x → IsAreaLawful x → head_in q.conds ≡ x.attribute → IsPreparedFor q x from upto → IsRun (meets_first q.conds) (shown_rows v.attribute v.tape) from upto
+shown-runs q v x from upto same w head p = subst (λ (a : AreaState). IsRun (meets_first q.conds) (shown_rows a.attribute a.tape) from upto) (sym same) (prepared-runs q x from upto w head p)
+
 -- an area in which nothing waits stands for the live rows of its tape
 pub rows-received : (x : AreaState) → x.inbox ≡ [] → rows_in x ≡ logged_rows x.attribute x.tape
 rows-received x e = ap (λ (us : List Update). fold rows_then (logged_rows x.attribute x.tape) us) e

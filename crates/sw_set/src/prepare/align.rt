@@ -10,6 +10,7 @@ ghost use Rattle.sw_query.specs.Outcomes.{MemoryAside};
 ghost use Rattle.sw_set.specs.Aligning.{AlignsBoxes, HasAlignedOr, MayAlign};
 ghost use Rattle.sw_set.specs.Aligned.{HasRoomWhereNeeded, IsAtEnd, IsSameMap, IsStalled};
 
+use crate::prepare::course::Course;
 use sw_map::{CrackerMap, Tail};
 use sw_query::Refusal;
 use sw_tape::Tape;
@@ -58,26 +59,20 @@ pub(crate) fn is_needed(tails: &[Tail], tail: Tail) -> bool
 }
 
 /// Steps one box to the tape's end where it holds a map that is needed.
-pub(crate) fn align_box<M: CrackerMap>(
-    attribute: u8,
-    it: &mut M,
-    tails: &[Tail],
-    tape: &Tape,
-) -> Result<(), Refusal>
-    requires lawful { IsLawful attribute tape.now (M.held it.old) }
-    requires keys { All (λ (e : Step Row). KeysFit e) tape.now }
-    requires room { HasRoomWhereNeeded tails.now tape.now (M.held it.old) }
-    ensures lawful { IsLawful attribute tape.now (M.held it.new) }
+pub(crate) fn align_box<M: CrackerMap>(it: &mut M, course: &Course<'_>) -> Result<(), Refusal>
+    requires lawful { IsLawful course.now.attribute course.now.tape.now (M.held it.old) }
+    requires room { HasRoomWhereNeeded course.now.tails.now course.now.tape.now (M.held it.old) }
+    ensures lawful { IsLawful course.now.attribute course.now.tape.now (M.held it.new) }
     ensures same { IsSameMap (M.held it.old) (M.held it.new) }
-    ensures ends { MemoryAside result (λ _. IsAtEnd tails.now tape.now (M.held it.new)) }
+    ensures ends { MemoryAside result (λ _. IsAtEnd course.now.tails.now course.now.tape.now (M.held it.new)) }
 {
     if it.is_blank() {
         return Ok(());
     }
-    if !is_needed(tails, it.tail()) {
+    if !is_needed(course.tails, it.tail()) {
         return Ok(());
     }
-    align_map(it, tape)
+    align_map(it, course.tape)
 }
 
 /// Aligns boxes by a function that does so.

@@ -10,6 +10,7 @@ ghost use Rattle.sw_query.specs.Outcomes.{MemoryAside};
 ghost use Rattle.sw_set.specs.Sought.{IsBetween};
 
 use crate::prepare::align::align_box;
+use crate::prepare::course::Course;
 use crate::prepare::in_turn::step_in_turn;
 use crate::prepare::lacking::{find_lacking, lacks, lacks_much};
 use std::thread;
@@ -22,37 +23,36 @@ use sw_tape::Tape;
 /// caller. A box whose step is refused stops at the cursor that it reached, and the others go on.
 fn step_first<R: Threads + Sync, M: CrackerMap>(
     rt: &R,
-    attribute: u8,
     boxes: &mut [M],
     many: usize,
-    tails: &[Tail],
-    tape: &Tape,
+    course: &Course<'_>,
 )
-    requires lawful { All (λ m. IsLawful attribute tape.now (M.held m)) boxes.old }
-    requires keys { All (λ (e : Step Row). KeysFit e) tape.now }
-    requires room { All (λ m. HasRoomWhereNeeded tails.now tape.now (M.held m)) boxes.old }
+    requires lawful { All (λ m. IsLawful course.now.attribute course.now.tape.now (M.held m)) boxes.old }
+    requires room { All (λ m. HasRoomWhereNeeded course.now.tails.now course.now.tape.now (M.held m)) boxes.old }
     requires within { many ≤ length boxes.old }
-    ensures lawful { All (λ m. IsLawful attribute tape.now (M.held m)) boxes.new }
+    ensures lawful { All (λ m. IsLawful course.now.attribute course.now.tape.now (M.held m)) boxes.new }
     ensures many { length boxes.new ≡ length boxes.old }
     ensures same { KeepMaps M.held boxes.old boxes.new }
 {
     let (front, rest) = boxes.split_at_mut(many);
-    step_in_turn(attribute, rest, tails, tape);
-    let step = |_: usize, it: &mut M|
-        requires { MayBeAligned attribute tape.now tails.now (M.held it.now) }
-        ensures { IsSteppedFrom attribute tape.entry.now (M.held it.entry.now) (M.held it.exit.now) }
+    step_in_turn(rest, course);
+    let step = |_: usize, m: &mut M|
+        requires { MayBeAligned course.now.attribute course.now.tape.now course.now.tails.now (M.held m.now) }
+        ensures { IsSteppedFrom course.entry.now.attribute course.entry.now.tape.now (M.held m.entry.now) (M.held m.exit.now) }
     {
-        let _ = align_box(attribute, it, tails, tape);
+        let _ = align_box(m, course);
     };
     thread::for_each_mut(rt, front, many.max(1), &step);
 }
 
 /// The first box, from a place on, whose needed map lacks so much that a thread is worth its start.
-fn find_much<M: CrackerMap>(boxes: &[M], from: usize, tails: &[Tail], tape: &Tape) -> Option<usize>
+fn find_much<M: CrackerMap>(boxes: &[M], from: usize, course: &Course<'_>) -> Option<usize>
     ensures { IfSome result (IsBetween from (length boxes.now)) }
 {
     for at in from..boxes.len() {
-        if lacks(&boxes[at], tails, tape.len()) && lacks_much(&boxes[at], tape) {
+        if lacks(&boxes[at], course.tails, course.tape.len())
+            && lacks_much(&boxes[at], course.tape)
+        {
             return Some(at);
         }
     }
@@ -63,27 +63,24 @@ fn find_much<M: CrackerMap>(boxes: &[M], from: usize, tails: &[Tail], tape: &Tap
 /// others in turn, and puts each back at its place.
 fn step_lacking<R: Threads + Sync, M: CrackerMap>(
     rt: &R,
-    attribute: u8,
     boxes: &mut [M],
     done: usize,
     from: usize,
-    tails: &[Tail],
-    tape: &Tape,
+    course: &Course<'_>,
 )
-    requires lawful { All (λ m. IsLawful attribute tape.now (M.held m)) boxes.old }
-    requires keys { All (λ (e : Step Row). KeysFit e) tape.now }
-    requires room { All (λ m. HasRoomWhereNeeded tails.now tape.now (M.held m)) boxes.old }
+    requires lawful { All (λ m. IsLawful course.now.attribute course.now.tape.now (M.held m)) boxes.old }
+    requires room { All (λ m. HasRoomWhereNeeded course.now.tails.now course.now.tape.now (M.held m)) boxes.old }
     requires done { done ≤ from }
     requires within { from ≤ length boxes.old }
-    ensures lawful { All (λ m. IsLawful attribute tape.now (M.held m)) boxes.new }
+    ensures lawful { All (λ m. IsLawful course.now.attribute course.now.tape.now (M.held m)) boxes.new }
     ensures many { length boxes.new ≡ length boxes.old }
     ensures same { KeepMaps M.held boxes.old boxes.new }
 {
-    match find_much(boxes, from, tails, tape) {
-        None => step_first(rt, attribute, boxes, done, tails, tape),
+    match find_much(boxes, from, course) {
+        None => step_first(rt, boxes, done, course),
         Some(at) => {
             boxes.swap(done, at);
-            step_lacking(rt, attribute, boxes, done + 1, at + 1, tails, tape);
+            step_lacking(rt, boxes, done + 1, at + 1, course);
             boxes.swap(done, at);
         }
     }
@@ -105,7 +102,12 @@ pub fn align_at_once<R: Threads + Sync, M: CrackerMap>(
     ensures same { AreSameMaps (map M.held boxes.old) (map M.held boxes.new) }
     ensures ends { MemoryAside result (λ _. All (IsAtEnd tails.now tape.now) (map M.held boxes.new)) }
 {
-    step_lacking(rt, attribute, boxes, 0, 0, tails, tape);
+    let course = Course {
+        attribute,
+        tails,
+        tape,
+    };
+    step_lacking(rt, boxes, 0, 0, &course);
     match find_lacking(boxes, 0, tails, tape.len()) {
         None => Ok(()),
         Some(_) => Err(Refusal::NoMemory),

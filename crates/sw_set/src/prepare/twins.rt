@@ -13,7 +13,8 @@ ghost use Rattle.sw_set.specs.Aligned.{HasRoomWhereNeeded, HasSteppedIf, IsSameM
 ghost use Rattle.sw_set.specs.Sought.{IsAt, IsNeeded};
 
 use crate::prepare::align::{align_map, step_upto};
-use sw_map::{CrackerMap, Tail};
+use crate::prepare::course::Course;
+use sw_map::CrackerMap;
 use sw_tape::{Entry, Tape};
 
 /// Replays an entry in two maps together, and tells of each whether it took it. One that was refused is as it was.
@@ -96,23 +97,20 @@ fn align_twins<M: CrackerMap>(attribute: u8, it: &mut M, twin: &mut M, tape: &Ta
 
 /// Steps the boxes at two places together, towards the tape's end.
 pub(crate) fn step_twins<M: CrackerMap>(
-    attribute: u8,
     boxes: &mut [M],
     at: usize,
     twin: usize,
-    tails: &[Tail],
-    tape: &Tape,
+    course: &Course<'_>,
 )
-    requires lawful { All (λ m. IsLawful attribute tape.now (M.held m)) boxes.old }
-    requires keys { All (λ (e : Step Row). KeysFit e) tape.now }
-    requires room { All (λ m. HasRoomWhereNeeded tails.now tape.now (M.held m)) boxes.old }
-    requires needed { IsAt (λ m. IsNeeded tails.now (M.held m)) boxes.old at }
+    requires lawful { All (λ m. IsLawful course.now.attribute course.now.tape.now (M.held m)) boxes.old }
+    requires room { All (λ m. HasRoomWhereNeeded course.now.tails.now course.now.tape.now (M.held m)) boxes.old }
+    requires needed { IsAt (λ m. IsNeeded course.now.tails.now (M.held m)) boxes.old at }
     requires behind { at < twin }
-    requires twin { IsAt (λ m. IsNeeded tails.now (M.held m)) boxes.old twin }
-    ensures lawful { All (λ m. IsLawful attribute tape.now (M.held m)) boxes.new }
+    requires twin { IsAt (λ m. IsNeeded course.now.tails.now (M.held m)) boxes.old twin }
+    ensures lawful { All (λ m. IsLawful course.now.attribute course.now.tape.now (M.held m)) boxes.new }
     ensures many { length boxes.new ≡ length boxes.old }
     ensures same { KeepMaps M.held boxes.old boxes.new }
 {
     let (front, back) = boxes.split_at_mut(twin);
-    align_twins(attribute, &mut front[at], &mut back[0], tape);
+    align_twins(course.attribute, &mut front[at], &mut back[0], course.tape);
 }

@@ -3,4 +3,4 @@ use Rattle.sw_kernel.specs.Ripple.{carried}
 use Rattle.sw_kernel.proofs.insertion.carry_on.Given as goal
 
 abbrev pub invariant-loop-k : goal.invariant-loop-k
-invariant-loop-k l = carried (drop l.k l.marks) (length l.fn.head) (l.hand.0, l.hand.1) (zip l.head l.tail) ≡ carried (drop l.fn.from l.marks) (length l.fn.head) (l.fn.h, l.fn.t) (zip l.fn.head l.fn.tail)
+invariant-loop-k l = carried (drop l.k l.marks) (length l.fn.head) l.hand (zip l.head l.tail) ≡ carried (drop l.fn.from l.marks) (length l.fn.head) l.fn.hand (zip l.fn.head l.fn.tail)

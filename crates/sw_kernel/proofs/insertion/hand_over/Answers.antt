@@ -12,7 +12,9 @@ pub returns-then-at-end-clause-pairs : goal.returns-then-at-end-clause-pairs
 returns-then-at-end-clause-pairs c =
     let a = c.args in
     let e : nat_lt a.at a.end ≡ true = lt-ltb a.at a.end c.if-at-end.true in
-    rw (e, to_z-of_z w64 a.h c.ranges.h, to_z-of_z w64 a.t c.ranges.t) (zip-set a.head.now a.tail.now a.at a.h a.t)
+    let f0 : SFits w64 a.hand.0 = search rules in
+    let f1 : SFits w64 a.hand.1 = search rules in
+    rw (e, to_z-of_z w64 a.hand.0 f0, to_z-of_z w64 a.hand.1 f1) (zip-set a.head.now a.tail.now a.at a.hand.0 a.hand.1)
 
 pub returns-then-at-end-clause-carried : goal.returns-then-at-end-clause-carried
 returns-then-at-end-clause-carried c =
@@ -23,4 +25,4 @@ returns-then-at-end-clause-carried c =
     let fy : SFits w64 y = search rules in
     let in_head : a.at < length a.head.now = omega arith in
     let in_tail : a.at < length a.tail.now = omega arith in
-    rw e (ap₂ (λ (u v : ℤ). (u, v)) (to_z-of_z w64 x fx ∙ get_or_default a.head.now a.at (pos 0) a.h in_head) (to_z-of_z w64 y fy ∙ get_or_default a.tail.now a.at (pos 0) a.t in_tail) ∙ sym (get_or-zip a.head.now a.tail.now a.at (a.h, a.t) in_head in_tail))
+    rw e (ap₂ (λ (u v : ℤ). (u, v)) (to_z-of_z w64 x fx ∙ get_or_default a.head.now a.at (pos 0) a.hand.0 in_head) (to_z-of_z w64 y fy ∙ get_or_default a.tail.now a.at (pos 0) a.hand.1 in_tail) ∙ sym (get_or-zip a.head.now a.tail.now a.at a.hand in_head in_tail))

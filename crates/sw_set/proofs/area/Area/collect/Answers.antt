@@ -10,7 +10,7 @@ use Rattle.sw_set.specs.Needs.{needed}
 use Rattle.sw_set.specs.Prepared.{StandReady}
 use Rattle.sw_set.specs.Shelf.{AreaState, key_of, logged_rows, rows_in}
 use Rattle.sw_set.proofs.Preparing.Needing.{key-needed}
-use Rattle.sw_set.proofs.Preparing.Ranges.{held-once, prepared-maps, prepared-runs, rows-received}
+use Rattle.sw_set.proofs.Preparing.Ranges.{held-once, prepared-maps, prepared-runs, rows-received, shown-runs}
 use Rattle.sw_set.proofs.Replying.Answered.{none-matching, told-answer, told-nothing}
 use Rattle.sw_set.proofs.area.Area.collect.Goals as goal
 
@@ -21,7 +21,7 @@ returns-then-ready-clause-answered g c =
     let items = shown_rows s.attribute s.tape in
     let live = logged_rows s.attribute s.tape in
     let rows : live ≡ rows_in c.args.self.now = ap (λ (v : AreaState). logged_rows v.attribute v.tape) c.self.view_is ∙ sym (rows-received c.args.self.now c.requires.received) in
-    let run = subst (λ (v : AreaState). IsRun (meets_first q.conds) (shown_rows v.attribute v.tape) c.args.ready.now.from c.args.ready.now.upto) (sym c.self.view_is) (prepared-runs _ _ _ _ c.known.ensures c.requires.head c.requires.ready) in
+    let run = shown-runs _ _ _ _ _ c.self.view_is c.known.ensures c.requires.head c.requires.ready in
     let none = none-matching q.conds items c.args.ready.now.from c.args.ready.now.upto run c.if-ready.true in
     let told = subst (λ (v : List Row). IsReplyOver v q.want (answer_over [] q.want)) (sym none) (told-nothing q.want) in
     c.nothing.ensures ∙ told-answer q.conds q.want items live (answer_over [] q.want) (held-once _ c.self.invariant.0) c.self.invariant.0.rows_rise told ∙ ap (λ (rs : List Row). answer rs q) rows
@@ -42,8 +42,7 @@ new-range-requires-clause-ordered g c κs within = (prepared-runs _ _ _ _ c.know
 
 pub new-range-requires-clause-within : goal.new-range-requires-clause-within
 new-range-requires-clause-within g c κs within =
-    let run = subst (λ (v : AreaState). IsRun (meets_first c.args.query.now.conds) (shown_rows v.attribute v.tape) c.args.ready.now.from c.args.ready.now.upto) (sym c.self.view_is) (prepared-runs _ _ _ _ c.known.ensures c.requires.head c.requires.ready) in
-    run.within
+    (shown-runs _ _ _ _ _ c.self.view_is c.known.ensures c.requires.head c.requires.ready).within
 
 pub collect-requires-clause-maps : goal.collect-requires-clause-maps
 collect-requires-clause-maps g c κs within =
@@ -59,7 +58,7 @@ pub collect-requires-clause-run : goal.collect-requires-clause-run
 collect-requires-clause-run g c κs within =
     let q = c.args.query.now in
     subst (λ (r : RangeState). IsRun (meets_first q.conds) (shown_rows r.head r.tape) r.from r.upto) (sym c.new-range.ensures)
-    (subst (λ (v : AreaState). IsRun (meets_first q.conds) (shown_rows v.attribute v.tape) c.args.ready.now.from c.args.ready.now.upto) (sym c.self.view_is) (prepared-runs _ _ _ _ c.known.ensures c.requires.head c.requires.ready))
+    (shown-runs _ _ _ _ _ c.self.view_is c.known.ensures c.requires.head c.requires.ready)
 
 pub returns-clause-answered : goal.returns-clause-answered
 returns-clause-answered g c =

@@ -17,7 +17,7 @@ pub align_map-requires-clause-room : goal.align_map-requires-clause-room
 align_map-requires-clause-room g c κs within =
     let m = g.M.CrackerMap.held c.args.it.now in
     let b : m.is_blank ≡ false = search rules in
-    let n : Contains c.args.tails.now m.tail = search rules in
+    let n : Contains c.args.course.now.tails.now m.tail = search rules in
     room-own _ _ _ b n c.requires.room
 
 pub returns-clause-lawful : goal.returns-clause-lawful

@@ -7,7 +7,7 @@ use Rattle.sw_set.proofs.prepare.in_turn.step_in_turn.Given as goal
 abbrev pub invariant-boxes : goal.invariant-boxes
 invariant-boxes g l =
     (length l.boxes ≡ length l.fn.boxes)
-    × All (λ m. IsLawful l.attribute l.tape (g.M.CrackerMap.held m)) l.boxes
+    × All (λ m. IsLawful l.course.attribute l.course.tape.now (g.M.CrackerMap.held m)) l.boxes
     × KeepMaps g.M.CrackerMap.held l.fn.boxes l.boxes
 
 abbrev pub decreases-boxes : goal.decreases-boxes

@@ -5,7 +5,7 @@ use Rattle.sw_spine.specs.Table.{all_updates, reply_to}
 use Rattle.sw_spine.specs.History.{CallsBelow, entry}
 use Rattle.sw_spine.specs.Books.{Books, books_of, is_opened, reply_now, waits_for}
 use Rattle.sw_spine.specs.declared.history.State.TheVariants.{Answered}
-use Rattle.sw_spine.proofs.Spines.{kept_told}
+use Rattle.sw_spine.proofs.Spines.{kept_told, pushed_entry}
 use Rattle.sw_spine.proofs.spine.Spine.add_answered.Goals as goal
 
 pub invariant_of-self-2 : goal.invariant_of-self-2
@@ -19,5 +19,5 @@ invariant_of-self-2 c =
     let known : c.args.reply ≡ reply_now (Select c.args.query) b = c.requires.reply ∙ ap (reply_now (Select c.args.query)) (sym c.self.view_is) in
     let reply : c.args.reply ≡ reply_to s.store.limit (all_updates s.store) (Select c.args.query) = known ∙ ap (λ us. reply_to s.store.limit us (Select c.args.query)) c.self.invariant.updates_are in
     let grown : c.push_reserved.new.self.items ≡ s.entries.items ++ entry c.args.session (Select c.args.query) (Answered (reply_to s.store.limit (all_updates s.store) (Select c.args.query))) ∷ [] =
-    c.push_reserved.ensures.items ∙ (ap (λ k. c.make_room.new.list.items ++ k ∷ []) (c.answered-entry.ensures ∙ ap (λ k. entry c.args.session k (Answered c.args.reply)) c.into_call.ensures) ∙ ap (λ es. es ++ entry c.args.session (Select c.args.query) (Answered c.args.reply) ∷ []) c.in_ok-make_room.ensures.items ∙ ap (λ r. s.entries.items ++ entry c.args.session (Select c.args.query) (Answered r) ∷ []) reply) in
+    pushed_entry _ _ _ _ _ _ _ _ _ c.push_reserved.ensures.items c.in_ok-make_room.ensures.items c.answered-entry.ensures c.into_call.ensures (ap Answered reply) in
     rw grown (kept_told s.schema s.store s.entries.items s.taken s.sessions s.published s.places.items c.args.session c.args.query c.self.invariant opened rest asks short)

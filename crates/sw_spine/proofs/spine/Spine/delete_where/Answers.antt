@@ -2,12 +2,11 @@ use Rattle.std.proofs.Common.{◌≡◌, ◌<◌, ◌∷◌, [], ◌++◌, true,
 use Rattle.std.specs.Prelude.{None}
 use Rattle.sw_query.specs.declared.query.Call.TheVariants.{DeleteWhere}
 use Rattle.sw_query.specs.declared.query.Cond.{Cond}
-use Rattle.sw_query.specs.declared.reply.Reply.TheVariants.{RemovedMany}
 use Rattle.sw_spine.specs.Table.{all_updates, reply_to}
 use Rattle.sw_spine.specs.History.{CallsBelow, entry}
 use Rattle.sw_spine.specs.Books.{Books, books_of, is_opened, waits_for}
 use Rattle.sw_spine.specs.declared.history.State.TheVariants.{Answered}
-use Rattle.sw_spine.proofs.Spines.{kept_answered}
+use Rattle.sw_spine.proofs.Spines.{kept_answered, pushed_entry}
 use Rattle.sw_spine.proofs.spine.Spine.delete_where.Goals as goal
 
 pub invariant_of-self-2 : goal.invariant_of-self-2
@@ -23,5 +22,5 @@ invariant_of-self-2 c =
     let asked = c.as_slice.ensures ∙ same in
     let done = rw asked at c.in_ok-many-in-DeleteWhere.ensures in
     let grown : c.push_reserved.new.self.items ≡ s.entries.items ++ entry c.args.session (DeleteWhere conds) (Answered (reply_to s.store.limit (all_updates s.store) (DeleteWhere conds))) ∷ [] =
-    c.push_reserved.ensures.items ∙ (ap (λ k. c.make_room.new.list.items ++ k ∷ []) (c.answered-entry.ensures ∙ ap (λ k. entry c.args.session k (Answered (RemovedMany c.in_ok-many-in-DeleteWhere.many))) c.in_ok-call.ensures) ∙ ap (λ es. es ++ entry c.args.session (DeleteWhere conds) (Answered (RemovedMany c.in_ok-many-in-DeleteWhere.many)) ∷ []) c.in_ok-make_room.ensures.items ∙ ap (λ r. s.entries.items ++ entry c.args.session (DeleteWhere conds) (Answered r) ∷ []) done.0) in
+    pushed_entry _ _ _ _ _ _ _ _ _ c.push_reserved.ensures.items c.in_ok-make_room.ensures.items c.answered-entry.ensures c.in_ok-call.ensures (ap Answered done.0) in
     rw (grown, done.1) (kept_answered s.schema s.store s.entries.items s.taken s.sessions s.published s.places.items c.args.session (DeleteWhere conds) c.self.invariant opened rest below short)
