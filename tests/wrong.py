@@ -1,9 +1,9 @@
 #!/usr/bin/env python3
 """Tries the wrong bodies of tests/wrong: the check must refuse each, by a goal of a function that it changes.
 
-    tests/wrong.py [--jobs N] [CRATE[/NAME]..]    all of them, or those of some crates
-    tests/wrong.py --most N [CRATE..]             of each crate those of tests/feared.txt, and others up to N
-    tests/wrong.py --texts                        whether each, and each control, can be made of the text that stands; proves nothing
+    tests/wrong.py [--jobs N] [--anew] [CRATE[/NAME]..]    all of them, or those of some crates
+    tests/wrong.py --most N [CRATE..]                      of each crate those of tests/feared.txt, and others up to N
+    tests/wrong.py --texts                                 whether each, and each control, can be made of the text that stands; proves nothing
 
 A function is proved by its own text and the clauses of what it calls. So bodies that change different functions stand in one copy of
 the crate. Of functions that the search proves by itself, `--start` tells which goals it leaves open, and proves nothing of what they call:
@@ -15,11 +15,16 @@ function's body. Each of these ends the trial with status 1.
 
 The libraries below a crate are those that `rt ci` or `rt lib` left; one that is not made of the text that stands is proved first. Every
 trial begins with its own test: a control beside a wrong body of what it calls, and texts that cannot be tried.
+
+Bodies that an earlier trial on this machine saw refused, of the same files over the same libraries, by the same toolchain and the same text
+of this file, are not tried again, as `rt ci` does not prove again what it proved; with `--anew` they are.
 """
 import argparse
 import collections
 import contextlib
 import glob
+import hashlib
+import json
 import os
 import re
 import shutil
@@ -28,9 +33,11 @@ import sys
 import tempfile
 from concurrent.futures import ThreadPoolExecutor
 
+import bodies as making
 from bodies import TOP, Unfit, changed, lemma_of, pairs_of, path_of, spans_of, text_of
 
 SECONDS = 1800  # of one check
+STORE = f"{os.environ.get('XDG_CACHE_HOME') or os.path.expanduser('~/.cache')}/sideways/wrong"
 PLACE = re.compile(r"(?:\./|note: )?((?:src|proofs)/\S+?):(\d+):\d+: (.*)")
 HOLE = re.compile(r"^-- (src/\S+:\d+:\d+)\npub (\S+) : .*\n\2 .*= \?$", re.M)
 # What an error says where a text names what is not there.
@@ -164,6 +171,39 @@ class Trial:
         return [(body, *((found[body], "") if body in found else self.alone(body))) for body in bodies]
 
 
+class Refusals:
+    """What earlier trials on this machine saw refused. An entry's name is the sum of all that it was made from."""
+
+    def __init__(self, is_anew):
+        self.is_anew, self.kept = is_anew, set()
+
+    def place(self, trial, bodies):
+        """Where it stands that these bodies of a crate were refused."""
+        made_from = [trial.crate.stamp(), text_of(__file__), text_of(making.__file__), [(it.crate, it.name, it.pairs) for it in bodies]]
+        return f"{STORE}/{hashlib.sha256(repr(made_from).encode()).hexdigest()}"
+
+    def told(self, trial, bodies):
+        """What these bodies came to: what is kept, or what they come to now, which is kept where all are refused."""
+        place = self.place(trial, bodies)
+        with contextlib.suppress(OSError, ValueError):
+            lines = [] if self.is_anew else json.loads(text_of(place))
+            if len(lines) == len(bodies):
+                self.kept.add(trial)
+                return [(body, line, "") for body, line in zip(bodies, lines)]
+        found = trial.told(bodies)
+        if not any(fault for _, _, fault in found):
+            self.keep(place, [line for _, line, _ in found])
+        return found
+
+    def keep(self, place, lines):
+        """Keeps these lines, in a file that is written apart and then renamed."""
+        with contextlib.suppress(OSError):
+            os.makedirs(STORE, 0o700, exist_ok=True)
+            with tempfile.NamedTemporaryFile("w", dir=STORE, delete=False, encoding="utf-8") as it:
+                json.dump(lines, it)
+            os.replace(it.name, place)
+
+
 def is_read(result):
     """Whether a check was run to its end, so that it tells of each function."""
     return result.status in (0, 1) and re.match(r"only=\d+ proved=\d+", result.said.strip().split("\n")[-1])
@@ -258,18 +298,20 @@ def stands(crate, name, path):
         raise Unfit(f"there is no lemma {lemma[1]} in {lemma[2]}")
 
 
-def tell(name, bodies, seconds):
-    """Prints what the bodies of a crate came to, and gives how many were not refused."""
+def tell(name, bodies, seconds, kept):
+    """Prints what the bodies of a crate came to, and how many of them an earlier trial saw refused, and gives how many were not refused."""
     lost = sum(bool(fault) for _, _, fault in bodies)
     text = "".join(f"wrong: {it.crate}/{it.name}: {fault or 'refused: ' + line[:160]}\n" for it, line, fault in bodies)
     # (in one piece, beside what other tests print)
-    print(f"{text}wrong: {name}: {len(bodies) - lost} of {len(bodies)} refused, {seconds:.0f} s of a processor", flush=True)
+    earlier = f", {kept} of them by an earlier trial of the same files" if kept else ""
+    print(f"{text}wrong: {name}: {len(bodies) - lost} of {len(bodies)} refused{earlier}, {seconds:.0f} s of a processor", flush=True)
     return lost
 
 
 def main():
     parser = argparse.ArgumentParser(description=__doc__, formatter_class=argparse.RawDescriptionHelpFormatter)
     parser.add_argument("--jobs", type=int, default=len(os.sched_getaffinity(0)))
+    parser.add_argument("--anew", action="store_true")
     parser.add_argument("--texts", action="store_true")
     parser.add_argument("--most", type=int, metavar="N")
     parser.add_argument("crates", nargs="*")
@@ -291,10 +333,11 @@ def main():
             sys.exit(f"wrong: {low.name} is not proved")
     names = [it for it in crates if any(body.crate == it for body in good)]
     lists = [(name, Trial(crates[name], rtlib), it) for name in names for it in batches([body for body in good if body.crate == name])]
+    refusals = Refusals(given.anew)
     with ThreadPoolExecutor(given.jobs) as pool:
         test = pool.submit(tests_itself, rtlib, crates)
         # (the largest first, so that none is left alone at the end)
-        runs = {id(it): pool.submit(it[1].told, it[2]) for it in sorted(lists, key=lambda it: -it[1].crate.count(rb"\n"))}
+        runs = {id(it): pool.submit(refusals.told, it[1], it[2]) for it in sorted(lists, key=lambda it: -it[1].crate.count(rb"\n"))}
         wrong = test.result()
         for line in wrong:
             print(f"wrong: its own test FAILED: {line}", flush=True)
@@ -302,7 +345,8 @@ def main():
         for name in names:
             own = [it for it in lists if it[0] == name]
             found = [told for it in own for told in runs[id(it)].result()]
-            lost += tell(name, found, sum(it[1].seconds for it in own))
+            kept = sum(len(it[2]) for it in own if it[1] in refusals.kept)
+            lost += tell(name, found, sum(it[1].seconds for it in own), kept)
     print(f"wrong: {len(good)} bodies, {lost} faults")
     return 1 if lost else 0
 
