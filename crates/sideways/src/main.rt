@@ -22,20 +22,18 @@ use std::rt::{Clock, Env, Files};
 use std::sync::Wait;
 use std::thread::Threads;
 use sw_program::{
-    Description, Form, Limit, Place, Refusal, Run, Script, Settings, Shell, Sights, Telling,
-    check_path, explain, status, write_fault, write_text,
+    Description, Failure, Form, Limit, Place, Refusal, Run, Script, Settings, Shell, Sights,
+    Telling, check_path, explain, status, write_fault, write_text,
 };
 use sw_rows::{Counted, Sink};
 use sw_usage::{command, command_named};
 
-/// Standard error: the sink to it, whether it is a terminal, and what a refusal means in words, once there is one. And whether lines are
-/// entered at a terminal and answered there.
+/// Standard error: the sink to it, and whether it is a terminal. And whether lines are entered at a terminal and answered there.
 #[derive(Drop)]
 struct Errors<E: Sink + Drop> {
     sink: E,
     is_terminal: bool,
     prompts: bool,
-    words: Option<String>,
 }
 
 /// The limit of rows that is given.
@@ -115,14 +113,14 @@ fn run_of<'r, 'a: 'r>(
 }
 
 /// Prints what the words are answered with in place of a call: the help, the version, or what is wrong with them.
-fn print_error<R: Print + Eprint>(rt: &R, error: &Error) -> Result<u8, Refusal> {
+fn print_error<R: Print + Eprint>(rt: &R, error: &Error) -> Result<u8, Failure> {
     if error.kind() == ErrorKind::OutOfMemory {
-        return Err(Refusal::NoMemory);
+        return Err(Failure::from(Refusal::NoMemory));
     }
     let is_printed = error.print(rt).is_ok();
     match error.exit_code() {
         0 if is_printed => Ok(0),
-        0 => Err(Refusal::Output),
+        0 => Err(Failure::from(Refusal::Output)),
         _ => Ok(2),
     }
 }
@@ -133,13 +131,13 @@ fn refuse_words<R: Print + Eprint>(
     alloc: Global,
     verb: &str,
     why: &str,
-) -> Result<u8, Refusal> {
+) -> Result<u8, Failure> {
     let Ok(mut command) = command_named(alloc, verb) else {
-        return Err(Refusal::NoMemory);
+        return Err(Failure::from(Refusal::NoMemory));
     };
     match command.error(ErrorKind::ArgumentConflict, why) {
         Ok(error) => print_error(rt, &error),
-        Err(_) => Err(Refusal::NoMemory),
+        Err(_) => Err(Failure::from(Refusal::NoMemory)),
     }
 }
 
@@ -173,17 +171,17 @@ fn wrong_with<R: Files>(rt: &R, run: &Run<'_>, calls: &[&str]) -> Option<&'stati
 fn make_run<
     R: Files + RandomSource + Clock + Print + Eprint + Input + Threads + Wait + Sync,
     E: Sink + Drop,
->(rt: &R, alloc: Global, given: &ArgMatches<'_>, errors: &mut Errors<E>) -> Result<u8, Refusal> {
+>(rt: &R, alloc: Global, given: &ArgMatches<'_>, errors: &mut Errors<E>) -> Result<u8, Failure> {
     let calls = calls_of(given);
     let Ok(lines) = lines_of(alloc, calls) else {
-        return Err(Refusal::NoMemory);
+        return Err(Failure::from(Refusal::NoMemory));
     };
     let Some(run) = run_of(given, lines.as_slice(), errors.is_terminal) else {
         return Ok(2);
     };
     match wrong_with(rt, &run, calls) {
         Some(why) => refuse_words(rt, alloc, "run", why),
-        None => run.make(rt, alloc, &mut errors.sink, &mut errors.words),
+        None => run.make(rt, alloc, &mut errors.sink),
     }
 }
 
@@ -200,19 +198,19 @@ fn make_check<R: Files + RandomSource + Print>(
     rt: &R,
     alloc: Global,
     given: &ArgMatches<'_>,
-    words: &mut Option<String>,
-) -> Result<u8, Refusal> {
+) -> Result<u8, Failure> {
     match given.get_str("file") {
-        Some(path) => check_path(rt, alloc, path, telling_of(given), words),
+        Some(path) => check_path(rt, alloc, path, telling_of(given)),
         None => Ok(2),
     }
 }
 
 /// Describes the table that the words name.
-fn make_description<
-    R: Files + RandomSource + Print + Eprint + Input + Threads + Sync,
-    E: Sink + Drop,
->(rt: &R, alloc: Global, given: &ArgMatches<'_>, errors: &mut Errors<E>) -> Result<u8, Refusal> {
+fn make_description<R: Files + RandomSource + Print + Eprint + Input + Threads + Sync>(
+    rt: &R,
+    alloc: Global,
+    given: &ArgMatches<'_>,
+) -> Result<u8, Failure> {
     let (Some(table), Some(form)) = (given.get_str("file"), given.get_str("output")) else {
         return Ok(2);
     };
@@ -225,7 +223,7 @@ fn make_description<
     if is_odd_header(description.header) {
         return refuse_words(rt, alloc, "describe", ODD_HEADER);
     }
-    description.make(rt, alloc, &mut errors.words)
+    description.make(rt, alloc)
 }
 
 /// The shell that the words ask for.
@@ -262,7 +260,7 @@ fn wrong_with_shell<R: Files>(rt: &R, shell: &Shell<'_>) -> Option<&'static str>
 fn make_shell<
     R: Files + RandomSource + Clock + Print + Eprint + Input + Threads + Wait + Sync,
     E: Sink + Drop,
->(rt: &R, alloc: Global, given: &ArgMatches<'_>, errors: &mut Errors<E>) -> Result<u8, Refusal> {
+>(rt: &R, alloc: Global, given: &ArgMatches<'_>, errors: &mut Errors<E>) -> Result<u8, Failure> {
     let Some(shell) = shell_of(given, errors.prompts) else {
         return Ok(2);
     };
@@ -270,22 +268,22 @@ fn make_shell<
         return refuse_words(rt, alloc, "shell", why);
     }
     if given.get_flag("names") {
-        return shell.names(rt, alloc, &mut errors.words);
+        return shell.names(rt, alloc);
     }
-    shell.make(rt, alloc, &mut errors.sink, &mut errors.words)
+    shell.make(rt, alloc, &mut errors.sink)
 }
 
 /// Looks for the order that the words ask for, unless the list of origins would be written over another of its files.
 fn make_order<
     R: Files + RandomSource + Clock + Print + Eprint + Threads + Wait + Sync,
     E: Sink + Drop,
->(rt: &R, alloc: Global, given: &ArgMatches<'_>, errors: &mut Errors<E>) -> Result<u8, Refusal> {
+>(rt: &R, alloc: Global, given: &ArgMatches<'_>, errors: &mut Errors<E>) -> Result<u8, Failure> {
     let Some(ordering) = ordering_of(given, errors.is_terminal) else {
         return Ok(2);
     };
     match ordering.clash(rt) {
         Some(why) => refuse_words(rt, alloc, "order", why),
-        None => ordering.make(rt, alloc, &mut errors.sink, &mut errors.words),
+        None => ordering.make(rt, alloc, &mut errors.sink),
     }
 }
 
@@ -293,13 +291,13 @@ fn make_order<
 fn make_import<
     R: Files + RandomSource + Clock + Print + Eprint + Input + Threads + Sync,
     E: Sink + Drop,
->(rt: &R, alloc: Global, given: &ArgMatches<'_>, errors: &mut Errors<E>) -> Result<u8, Refusal> {
+>(rt: &R, alloc: Global, given: &ArgMatches<'_>, errors: &mut Errors<E>) -> Result<u8, Failure> {
     let Some(import) = import_of(given, errors.is_terminal) else {
         return refuse_words(rt, alloc, "import", NO_DELIMITER);
     };
     match import.clash(rt) {
         Some(why) => refuse_words(rt, alloc, "import", why),
-        None => import.make(rt, alloc, &mut errors.sink, &mut errors.words),
+        None => import.make(rt, alloc, &mut errors.sink),
     }
 }
 
@@ -307,16 +305,14 @@ fn make_import<
 fn make_command<
     R: Files + RandomSource + Clock + Print + Eprint + Input + Threads + Wait + Sync,
     E: Sink + Drop,
->(rt: &R, alloc: Global, matches: &ArgMatches<'_>, errors: &mut Errors<E>) -> Result<u8, Refusal> {
+>(rt: &R, alloc: Global, matches: &ArgMatches<'_>, errors: &mut Errors<E>) -> Result<u8, Failure> {
     match matches.subcommand() {
-        Some(("check", given)) => make_check(rt, alloc, given, &mut errors.words),
-        Some(("describe", given)) => make_description(rt, alloc, given, errors),
+        Some(("check", given)) => make_check(rt, alloc, given),
+        Some(("describe", given)) => make_description(rt, alloc, given),
         Some(("order", given)) => make_order(rt, alloc, given, errors),
         Some(("import", given)) => make_import(rt, alloc, given, errors),
         Some(("shell", given)) => make_shell(rt, alloc, given, errors),
-        Some(("explain", given)) => {
-            explain(rt, alloc, given.get_one::<u64>("number"), &mut errors.words)
-        }
+        Some(("explain", given)) => explain(rt, alloc, given.get_one::<u64>("number")),
         Some((_, given)) => make_run(rt, alloc, given, errors),
         None => Ok(2),
     }
@@ -326,9 +322,9 @@ fn make_command<
 fn read_words<
     R: Files + RandomSource + Clock + Print + Eprint + Input + Threads + Wait + Sync,
     E: Sink + Drop,
->(rt: &R, alloc: Global, words: &[String], errors: &mut Errors<E>) -> Result<u8, Refusal> {
+>(rt: &R, alloc: Global, words: &[String], errors: &mut Errors<E>) -> Result<u8, Failure> {
     let Ok(command) = command(alloc) else {
-        return Err(Refusal::NoMemory);
+        return Err(Failure::from(Refusal::NoMemory));
     };
     match command.try_get_matches_from(words) {
         Ok(matches) => make_command(rt, alloc, &matches, errors),
@@ -352,19 +348,19 @@ fn words_of<R: Env>(rt: &R, alloc: Global) -> Result<Vec<String>, Refusal> {
 fn answer<
     R: Env + Files + RandomSource + Clock + Print + Eprint + Input + Threads + Wait + Sync,
     E: Sink + Drop,
->(rt: &R, alloc: Global, errors: &mut Errors<E>) -> Result<u8, Refusal> {
+>(rt: &R, alloc: Global, errors: &mut Errors<E>) -> Result<u8, Failure> {
     let words = words_of(rt, alloc)?;
     read_words(rt, alloc, words.as_slice(), errors)
 }
 
-/// Tells a refusal on standard error, and what it means in words, where there are any; the exit status is that of the
-/// refusal.
-fn tell_refusal<E: Sink + Drop>(refusal: &Refusal, errors: &mut Errors<E>) -> u8 {
-    let _ = write_fault(refusal, &mut errors.sink);
-    if let Some(words) = &errors.words {
-        let _ = write_text(&mut errors.sink, words.as_bytes());
+/// Tells a failure on standard error: its refusal, and what that means in words, where there are any. The exit status is that of
+/// the refusal.
+fn tell_failure<E: Sink>(failure: &Failure, errors: &mut E) -> u8 {
+    let _ = write_fault(&failure.refusal, errors);
+    if let Some(words) = &failure.words {
+        let _ = write_text(errors, words.as_bytes());
     }
-    status(refusal)
+    status(&failure.refusal)
 }
 
 /// The topmost folder as a file that is open, which can neither be read nor written; none where the system opens none.
@@ -399,10 +395,9 @@ fn main(rt: HostRuntime) -> ExitCode {
         sink: Counted::new(rt.stderr()),
         is_terminal: rt.stderr().is_terminal(),
         prompts: rt.stdin().is_terminal() && rt.stdout().is_terminal(),
-        words: None,
     };
     ExitCode::from(match answer(&rt, rt.alloc(), &mut errors) {
         Ok(code) => code,
-        Err(refusal) => tell_refusal(&refusal, &mut errors),
+        Err(failure) => tell_failure(&failure, &mut errors.sink),
     })
 }

@@ -3,6 +3,7 @@
 ghost use Rattle.std.specs.Prelude.{List, ℕ, IfOk};
 ghost use Rattle.sw_commands.specs.Statuses.{IsStatusOf};
 
+use crate::failure::Failure;
 use crate::inputs::Place;
 use crate::origins::Origins;
 use crate::outflow::{Outflow, Reader};
@@ -82,59 +83,40 @@ fn check_bytes<R: Files + RandomSource + Print>(
     }
 }
 
-/// Why a history is refused that could be read, in words: what is wrong with an entry, or that it cannot be read from where
-/// entries came.
-fn why_refused<R: Files>(
-    rt: &R,
-    alloc: Global,
-    place: Place<'_>,
-    bytes: &[u8],
-    telling: Telling<'_>,
-    refusal: &Refusal,
-) -> Option<String> {
-    match (refusal, telling.origins) {
-        (Refusal::Input, Some(origins)) => wording::of_file(
-            rt,
-            alloc,
-            Place::new(origins),
-            refusal,
-        ),
-        _ => wording::of_history(alloc, place, bytes, refusal),
-    }
-}
-
 /// Reads a history file, `-` being standard input, and writes the verdict on it, and what else is told of it; answers the
 /// exit status, 0 where it is legal, else 1.
 ///
 /// Refused `Input` where a file cannot be opened or read, or the system gives no random bytes for the key of texts, as
-/// `check_file` refuses its bytes, and `Output` where the verdict cannot be written. Which file cannot be read, what is wrong
-/// with an entry that is refused, and why the verdict cannot be written, is put into `words`, as a line.
+/// `check_file` refuses its bytes, and `Output` where the verdict cannot be written. The failure's words tell which file cannot be
+/// read, what is wrong with an entry that is refused, or why the verdict cannot be written, as a line.
 pub fn check_path<R: Files + RandomSource + Print>(
     rt: &R,
     alloc: Global,
     path: &str,
     telling: Telling<'_>,
-    words: &mut Option<String>,
-) -> Result<u8, Refusal>
+) -> Result<u8, Failure>
     ensures { IfOk result (λ status. (bytes : List ℕ) × IsStatusOf bytes status) }
 {
     let place = Place::new(path);
     let bytes = match read_file(rt, alloc, place.path()) {
         Ok(bytes) => bytes,
         Err(refusal) => {
-            *words = wording::of_file(rt, alloc, place, &refusal);
-            return Err(refusal);
+            let words = wording::of_file(rt, alloc, place, &refusal);
+            return Err(Failure { refusal, words });
         }
     };
     let reader = Reader::new();
     match check_bytes(rt, alloc, bytes.as_slice(), telling, &reader) {
         Ok(status) => Ok(status),
         Err(refusal) => {
-            *words = match &refusal {
-                Refusal::Output => wording::of_output(alloc, &reader, &refusal),
-                _ => why_refused(rt, alloc, place, bytes.as_slice(), telling, &refusal),
+            let words = match (&refusal, telling.origins) {
+                (Refusal::Output, _) => wording::of_output(alloc, &reader, &refusal),
+                (Refusal::Input, Some(origins)) => {
+                    wording::of_file(rt, alloc, Place::new(origins), &refusal)
+                }
+                _ => wording::of_history(alloc, place, bytes.as_slice(), &refusal),
             };
-            Err(refusal)
+            Err(Failure { refusal, words })
         }
     }
 }

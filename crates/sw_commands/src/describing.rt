@@ -2,6 +2,7 @@
 
 ghost use Rattle.std.specs.Prelude.{◌≡◌, IfOk};
 
+use crate::failure::Failure;
 use crate::inputs::{Keeping, Kept, Place, is_read_once, open_table};
 use crate::outflow::{Outflow, Reader};
 use crate::shaping::flush;
@@ -171,47 +172,45 @@ impl Description<'_> {
         }
     }
 
-    /// Describes a table that was read, and puts into words why that cannot be written.
+    /// Describes a table that was read. The failure's words tell why that cannot be written.
     fn describe<R: RandomSource + Print>(
         &self,
         rt: &R,
         alloc: Global,
         table: &Loaded,
-        told: &mut Option<String>,
-    ) -> Result<u8, Refusal>
+    ) -> Result<u8, Failure>
         ensures { IfOk result (λ status. status ≡ 0) }
     {
         let reader = Reader::new();
         match describe(rt, alloc, self.is_json, table, &reader) {
             Ok(status) => Ok(status),
             Err(refusal) => {
-                *told = of_output(alloc, &reader, &refusal);
-                Err(refusal)
+                let words = of_output(alloc, &reader, &refusal);
+                Err(Failure { refusal, words })
             }
         }
     }
 
     /// Reads the table and writes on standard output what its columns have; answers the exit status 0. Refused as `load`
     /// is, `Input` where the table cannot be opened or the system gives no random bytes, and `Output` where standard output
-    /// fails. What a refusal means is put into `told`, where words can be found.
+    /// fails. The failure's words tell what is wrong with the table, or why nothing can be written, where that can be found.
     pub fn make<R: Files + RandomSource + Print + Input + Threads + Sync>(
         &self,
         rt: &R,
         alloc: Global,
-        told: &mut Option<String>,
-    ) -> Result<u8, Refusal>
+    ) -> Result<u8, Failure>
         ensures { IfOk result (λ status. status ≡ 0) }
     {
         let Came { read, kept } = read_at(rt, alloc, self.table, self.header);
         match read {
-            Ok(table) => self.describe(rt, alloc, &table, told),
+            Ok(table) => self.describe(rt, alloc, &table),
             Err(refusal) => {
                 let kept = Keeps {
                     table: kept,
                     script: Kept::Often,
                 };
-                *told = words(rt, alloc, &self.asking(), &refusal, kept);
-                Err(refusal)
+                let words = words(rt, alloc, &self.asking(), &refusal, kept);
+                Err(Failure { refusal, words })
             }
         }
     }

@@ -2,6 +2,7 @@
 
 ghost use Rattle.std.specs.Prelude.{◌≡◌, ◌≤◌, IfOk, IfSome};
 
+use crate::failure::Failure;
 use crate::outflow::{Outflow, Reader};
 use crate::shaping::flush;
 use crate::wording::of_output;
@@ -158,21 +159,16 @@ fn write_all_of<W: Write + Drop>(alloc: Global, only: Option<u64>, out: W) -> Re
 }
 
 /// Writes on standard output what the refusal of a number means, or of all numbers where none is given, and answers the
-/// exit status 0. Refused `Output` where it cannot be written, of which `told` gets why in words, and `NoMemory`.
-pub fn explain<R: Print>(
-    rt: &R,
-    alloc: Global,
-    only: Option<u64>,
-    told: &mut Option<String>,
-) -> Result<u8, Refusal>
+/// exit status 0. Refused `Output` where it cannot be written, of which the failure's words tell why, and `NoMemory`.
+pub fn explain<R: Print>(rt: &R, alloc: Global, only: Option<u64>) -> Result<u8, Failure>
     ensures { IfOk result (λ status. status ≡ 0) }
 {
     let reader = Reader::new();
     match write_all_of(alloc, only, Outflow::new(io::writer(rt), &reader)) {
         Ok(()) => Ok(0),
         Err(refusal) => {
-            *told = of_output(alloc, &reader, &refusal);
-            Err(refusal)
+            let words = of_output(alloc, &reader, &refusal);
+            Err(Failure { refusal, words })
         }
     }
 }

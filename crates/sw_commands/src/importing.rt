@@ -3,6 +3,7 @@
 ghost use Rattle.std.specs.Prelude.{◌≡◌, ◌⊎◌, IfOk};
 
 use crate::clash::is_output;
+use crate::failure::Failure;
 use crate::inputs::{Place, open_place};
 use crate::outflow::{Outflow, Reader};
 use crate::seeing::{LinesSeen, Seen, Sights, What};
@@ -118,15 +119,15 @@ fn refuse<E: Sink>(
     fault: &Fault,
     more: &str,
     errors: &mut E,
-) -> Result<u8, Refusal>
+) -> Result<u8, Failure>
     ensures { IfOk result (λ status. status ≡ 2) }
 {
     if fault.is_memory() {
-        return Err(Refusal::NoMemory);
+        return Err(Failure::from(Refusal::NoMemory));
     }
     let file = called(place);
     let Ok(text) = format!(in alloc; "sideways: {file}: {fault}{more}\n") else {
-        return Err(Refusal::NoMemory);
+        return Err(Failure::from(Refusal::NoMemory));
     };
     let _ = write_all(errors, text.as_bytes());
     Ok(2)
@@ -139,11 +140,11 @@ fn tell<E: Sink>(
     made: &Imported,
     more: &str,
     errors: &mut E,
-) -> Result<u8, Refusal>
+) -> Result<u8, Failure>
     ensures { IfOk result (λ status. status ≡ 0) }
 {
     let Ok(text) = summary(alloc, called(place), made) else {
-        return Err(Refusal::NoMemory);
+        return Err(Failure::from(Refusal::NoMemory));
     };
     let _ = write_all(errors, text.as_bytes());
     let _ = write_all(errors, more.as_bytes());
@@ -176,35 +177,35 @@ impl Import<'_> {
     }
 
     /// Reads the values and makes the table; answers also what is told besides. Refused `Input` where the
-    /// values cannot be opened or read or the system gives no random bytes for the key of texts, and `NoMemory`; `told` gets
-    /// what that means in words.
+    /// values cannot be opened or read or the system gives no random bytes for the key of texts, and `NoMemory`; the failure's
+    /// words tell which it was.
     fn read<R: Files + Clock + Eprint + Input + RandomSource + Threads + Sync>(
         &self,
         rt: &R,
         alloc: Global,
-        told: &mut Option<String>,
-    ) -> Result<(Came, String), Refusal> {
+    ) -> Result<(Came, String), Failure> {
         let place = Place::new(self.file);
         let bytes = match read_values(rt, alloc, place, self.progress) {
             Ok(bytes) => bytes,
             Err(refusal) => {
-                *told = of_unread(rt, alloc, place, &refusal);
-                return Err(refusal);
+                let words = of_unread(rt, alloc, place, &refusal);
+                return Err(Failure { refusal, words });
             }
         };
         let key = match TextKey::new(rt) {
             Ok(key) => key,
             Err(refusal) => {
-                *told = String::from_str(alloc, NO_KEY).ok();
-                return Err(refusal);
+                let words = String::from_str(alloc, NO_KEY).ok();
+                return Err(Failure { refusal, words });
             }
         };
         let came = import_in_parts(rt, alloc, key, &self.how, bytes.as_slice());
         match self.more(alloc, &came, bytes.as_slice()) {
             Ok(more) if !is_memory(&came) => Ok((came, more)),
             _ => {
-                *told = of_unread(rt, alloc, place, &Refusal::NoMemory);
-                Err(Refusal::NoMemory)
+                let refusal = Refusal::NoMemory;
+                let words = of_unread(rt, alloc, place, &refusal);
+                Err(Failure { refusal, words })
             }
         }
     }
@@ -219,18 +220,17 @@ impl Import<'_> {
     }
 
     /// Writes the texts for which numbers stand to their file, and the table to standard output. Refused `Output` where
-    /// one of them cannot be written, and `NoMemory`; `told` gets what that means in words.
+    /// one of them cannot be written, and `NoMemory`; the failure's words tell which it was, and why.
     fn write<R: Files + Print>(
         &self,
         rt: &R,
         alloc: Global,
         made: &Imported,
-        told: &mut Option<String>,
-    ) -> Result<(), Refusal> {
+    ) -> Result<(), Failure> {
         if let Some(path) = self.dictionary {
             if let Err(refusal) = keep_dictionary(rt, alloc, path, made) {
-                *told = of_unwritten(rt, alloc, path, &refusal);
-                return Err(refusal);
+                let words = of_unwritten(rt, alloc, path, &refusal);
+                return Err(Failure { refusal, words });
             }
         }
         let reader = Reader::new();
@@ -238,8 +238,8 @@ impl Import<'_> {
         match write_all(&mut out, made.bytes.as_slice()) {
             Ok(()) => Ok(()),
             Err(refusal) => {
-                *told = of_output(alloc, &reader, &refusal);
-                Err(refusal)
+                let words = of_output(alloc, &reader, &refusal);
+                Err(Failure { refusal, words })
             }
         }
     }
@@ -247,24 +247,23 @@ impl Import<'_> {
     /// Makes the table: it goes to standard output, the texts for which numbers stand to their file, and what was done to
     /// `errors`. Answers the exit status: 0 where there is a table, and 2 where there is none, which is told on `errors`.
     /// Refused `Input` where the values cannot be opened or read or the system gives no random bytes for the key of texts,
-    /// `Output` where the table or the texts cannot be written, and `NoMemory`. What a refusal means is put into `told`,
-    /// where there is memory for it.
+    /// `Output` where the table or the texts cannot be written, and `NoMemory`. The failure's words tell which it was, where
+    /// there is memory for them.
     pub fn make<R: Files + Clock + Input + RandomSource + Print + Eprint + Threads + Sync, E: Sink>(
         &self,
         rt: &R,
         alloc: Global,
         errors: &mut E,
-        told: &mut Option<String>,
-    ) -> Result<u8, Refusal>
+    ) -> Result<u8, Failure>
         ensures { IfOk result (λ status. (status ≡ 0) ⊎ (status ≡ 2)) }
     {
-        let (came, more) = self.read(rt, alloc, told)?;
+        let (came, more) = self.read(rt, alloc)?;
         let place = Place::new(self.file);
         match came {
-            Ok(made) => match self.write(rt, alloc, &made, told) {
-                Ok(()) => tell(alloc, place, &made, more.as_str(), errors),
-                Err(refusal) => Err(refusal),
-            },
+            Ok(made) => {
+                self.write(rt, alloc, &made)?;
+                tell(alloc, place, &made, more.as_str(), errors)
+            }
             Err(fault) => refuse(alloc, place, &fault, more.as_str(), errors),
         }
     }

@@ -5,6 +5,7 @@ ghost use Rattle.sw_logs.specs.Openings.{IsOpening};
 ghost use Rattle.sw_logs.specs.Orders.{AllFit};
 
 use crate::clash::is_output;
+use crate::failure::Failure;
 use crate::flaws;
 use crate::inputs::Place;
 use crate::outflow::{Outflow, Reader};
@@ -55,12 +56,16 @@ pub struct Ordering<'a> {
 /// Why no order is looked for.
 #[derive(Drop)]
 enum Unread {
-    /// The table, memory or the system is refused.
-    Refused(Refusal),
-    /// A log cannot be read, and why in words.
-    Unopened(Option<String>),
+    /// The command cannot be carried out.
+    Failed(Failure),
     /// A log is none, and what is told of it.
     Told(String),
+}
+
+impl From<Refusal> for Unread {
+    fn from(refusal: Refusal) -> Unread {
+        Unread::Failed(Failure::from(refusal))
+    }
 }
 
 impl<R: Clock + Eprint + Sync> Onlooker for Seen<'_, R> {
@@ -69,49 +74,26 @@ impl<R: Clock + Eprint + Sync> Onlooker for Seen<'_, R> {
     }
 }
 
-/// Why a log is refused, in words.
+/// Why a log is none, in words.
 fn refused(alloc: Global, path: &str, bytes: &[u8], fault: &Fault) -> Unread {
     if let Fault::NoMemory = fault {
-        return Unread::Refused(Refusal::NoMemory);
+        return Unread::from(Refusal::NoMemory);
     }
     match flaws::told(alloc, called(Place::new(path)), bytes, fault) {
         Ok(told) => Unread::Told(told),
-        Err(_) => Unread::Refused(Refusal::NoMemory),
+        Err(_) => Unread::from(Refusal::NoMemory),
     }
 }
 
-/// The bytes of a log.
+/// The bytes of a log. Where it cannot be read the failure's words tell why.
 fn bytes_of<R: Files>(rt: &R, alloc: Global, path: &str) -> Result<Vec<u8>, Unread> {
     let place = Place::new(path);
     match read_file(rt, alloc, place.path()) {
         Ok(bytes) => Ok(bytes),
-        Err(Refusal::Input) => Err(Unread::Unopened(of_file(rt, alloc, place, &Refusal::Input))),
-        Err(refusal) => Err(Unread::Refused(refusal)),
-    }
-}
-
-/// Reads a log.
-fn read_one<R: Files>(
-    rt: &R,
-    alloc: Global,
-    schema: &mut Schema,
-    log: u64,
-    path: &str,
-    calls: &mut Vec<Logged>,
-) -> Result<(), Unread>
-    requires { AllFit (length schema.old) calls.old.items }
-    ensures { OnOk result (AllFit (length schema.new) calls.new.items) }
-{
-    let bytes = bytes_of(rt, alloc, path)?;
-    match read_log(
-        alloc,
-        schema,
-        log,
-        &mut Counted::new(bytes.as_slice()),
-        calls,
-    ) {
-        Ok(()) => Ok(()),
-        Err(fault) => Err(refused(alloc, path, bytes.as_slice(), &fault)),
+        Err(refusal) => {
+            let words = of_file(rt, alloc, place, &refusal);
+            Err(Unread::Failed(Failure { refusal, words }))
+        }
     }
 }
 
@@ -129,7 +111,11 @@ fn read_logs<R: Files>(
     let mut number = 0u64;
     for log in logs {
         number = number.saturating_add(1);
-        read_one(rt, alloc, schema, number, *log, calls)?;
+        let bytes = bytes_of(rt, alloc, *log)?;
+        let mut source = Counted::new(bytes.as_slice());
+        if let Err(fault) = read_log(alloc, schema, number, &mut source, calls) {
+            return Err(refused(alloc, *log, bytes.as_slice(), &fault));
+        }
     }
     Ok(())
 }
@@ -171,10 +157,7 @@ fn order_over<R: Files + Clock + Eprint + Sync>(
     read_logs(rt, alloc, &mut opening.schema, ordering.logs, calls)?;
     let seen = Seen::new(rt, Sights::of_progress(ordering.progress), false);
     let rules = rules_of(ordering.way);
-    match find_order(alloc, opening, calls.as_slice(), rules, &seen) {
-        Ok(outcome) => Ok(outcome),
-        Err(refusal) => Err(Unread::Refused(refusal)),
-    }
+    Ok(find_order(alloc, opening, calls.as_slice(), rules, &seen)?)
 }
 
 /// Writes a text in quotes, in which quotes are doubled.
@@ -248,7 +231,7 @@ fn tell_none<E: Sink>(
     calls: &[Logged],
     reached: &Reached,
     errors: &mut E,
-) -> Result<u8, Refusal> {
+) -> Result<u8, Failure> {
     write_reached("no order", logs, calls, reached, errors)?;
     Ok(1)
 }
@@ -259,7 +242,7 @@ fn tell_given_up<E: Sink>(
     calls: &[Logged],
     reached: &Reached,
     errors: &mut E,
-) -> Result<u8, Refusal> {
+) -> Result<u8, Failure> {
     write_all(errors, b"given up after ")?;
     write_number(reached.states, errors)?;
     write_reached(" states", logs, calls, reached, errors)?;
@@ -272,23 +255,14 @@ fn write_line<W: Sink>(text: &str, out: &mut W) -> Result<(), Refusal> {
     write_all(out, b"\n")
 }
 
-/// Ends where no order is looked for: answers the exit status where a log is none, which is told; else it is refused, and
-/// `words` gets what that means.
-fn end_unread<E: Sink>(
-    unread: Unread,
-    errors: &mut E,
-    words: &mut Option<String>,
-) -> Result<u8, Refusal> {
+/// Ends where no order is looked for: answers the exit status where a log is none, which is told; else it fails.
+fn end_unread<E: Sink>(unread: Unread, errors: &mut E) -> Result<u8, Failure> {
     match unread {
         Unread::Told(told) => {
             write_line(told.as_str(), errors)?;
             Ok(2)
         }
-        Unread::Unopened(why) => {
-            *words = why;
-            Err(Refusal::Input)
-        }
-        Unread::Refused(refusal) => Err(refusal),
+        Unread::Failed(failure) => Err(failure),
     }
 }
 
@@ -325,21 +299,20 @@ impl Ordering<'_> {
         None
     }
 
-    /// Writes the history of an order that was found, and from where its entries came; `words` gets why that was refused.
-    /// Answers the exit status.
+    /// Writes the history of an order that was found, and from where its entries came. Answers the exit status. The failure's
+    /// words tell which of them cannot be written.
     fn write<R: Files + Print>(
         &self,
         rt: &R,
         alloc: Global,
         calls: &[Logged],
         order: &Order,
-        words: &mut Option<String>,
-    ) -> Result<u8, Refusal> {
+    ) -> Result<u8, Failure> {
         let reader = Reader::new();
         let mut out = Counted::new(Outflow::new(io::writer(rt), &reader));
         if let Err(refusal) = write_record(alloc, &order.history, &mut out) {
-            *words = of_output(alloc, &reader, &refusal);
-            return Err(refusal);
+            let words = of_output(alloc, &reader, &refusal);
+            return Err(Failure { refusal, words });
         }
         let Some(path) = self.origins else {
             return Ok(0);
@@ -347,13 +320,13 @@ impl Ordering<'_> {
         let mut origins = Counted::new(Vec::new(alloc));
         // a list in memory refuses bytes for want of memory alone
         if write_origins(self.logs, calls, order.places.as_slice(), &mut origins).is_err() {
-            return Err(Refusal::NoMemory);
+            return Err(Failure::from(Refusal::NoMemory));
         }
         match keep_origins(rt, alloc, origins.inner.as_slice(), path) {
             Ok(()) => Ok(0),
             Err(refusal) => {
-                *words = of_unwritten(rt, alloc, path, &refusal);
-                Err(refusal)
+                let words = of_unwritten(rt, alloc, path, &refusal);
+                Err(Failure { refusal, words })
             }
         }
     }
@@ -363,29 +336,29 @@ impl Ordering<'_> {
     /// refused, and 3 where the search was given up.
     ///
     /// Refused as `read_opening` is, `Input` where the table or a log cannot be read or the system gives no random bytes for
-    /// the key of texts, and `Output` where what is found cannot be written. Which file was refused is put into `words`.
+    /// the key of texts, and `Output` where what is found cannot be written. The failure's words tell which file was
+    /// refused.
     pub fn make<R: Files + RandomSource + Clock + Print + Eprint + Sync, E: Sink>(
         &self,
         rt: &R,
         alloc: Global,
         errors: &mut E,
-        words: &mut Option<String>,
-    ) -> Result<u8, Refusal> {
+    ) -> Result<u8, Failure> {
         let opening = match open_table(rt, alloc, self) {
             Ok(opening) => opening,
             Err(refusal) => {
-                *words = of_file(rt, alloc, Place::new(self.table), &refusal);
-                return Err(refusal);
+                let words = of_file(rt, alloc, Place::new(self.table), &refusal);
+                return Err(Failure { refusal, words });
             }
         };
         let mut calls = Vec::new(alloc);
         let outcome = match order_over(rt, alloc, self, opening, &mut calls) {
             Ok(outcome) => outcome,
-            Err(unread) => return end_unread(unread, errors, words),
+            Err(unread) => return end_unread(unread, errors),
         };
         let calls = calls.as_slice();
         match &outcome {
-            Outcome::Found(order) => self.write(rt, alloc, calls, order, words),
+            Outcome::Found(order) => self.write(rt, alloc, calls, order),
             Outcome::NoOrder(reached) => tell_none(self.logs, calls, reached, errors),
             Outcome::GivenUp(reached) => tell_given_up(self.logs, calls, reached, errors),
         }

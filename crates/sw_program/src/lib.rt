@@ -10,8 +10,8 @@ pub use running::Run;
 pub use shelling::Shell;
 pub use sw_cli::{status, write_fault};
 pub use sw_commands::{
-    Clash, Description, Form, Import, Limit, Ordering, Place, Script, Settings, Sights, Telling,
-    Way, check_path, explain,
+    Clash, Description, Failure, Form, Import, Limit, Ordering, Place, Script, Settings, Sights,
+    Telling, Way, check_path, explain,
 };
 pub use sw_import::{Asked, Blank, How, Long, Rules, Times};
 pub use sw_lang::write_all as write_text;

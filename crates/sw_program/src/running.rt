@@ -14,8 +14,8 @@ use sw_cli::{
     write_record, write_stats_line, write_stats_title,
 };
 use sw_commands::{
-    Asking, Clash, Form, Keeping, Keeps, Kept, LinesSeen, Outflow, Place, Script, Seen, Settings,
-    Sights, What, are_ample, is_read_once, of_form, of_output, of_unwritten, open_script,
+    Asking, Clash, Failure, Form, Keeping, Keeps, Kept, LinesSeen, Outflow, Place, Script, Seen,
+    Settings, Sights, What, are_ample, is_read_once, of_form, of_output, of_unwritten, open_script,
     open_table, script_bytes, shape, words,
 };
 use sw_files::begin_file;
@@ -212,33 +212,34 @@ fn give_out<R: Files>(
     file.end(rt, written)
 }
 
-/// What came of writing a file; `words` gets why it was refused.
+/// What came of writing the file of a path. Where that was refused the failure's words tell why.
 fn told_of<R: Files>(
     rt: &R,
     alloc: Global,
     path: &str,
     written: Result<(), Refusal>,
-    words: &mut Option<String>,
-) -> Result<(), Refusal> {
-    if let Err(refusal) = &written {
-        *words = of_unwritten(rt, alloc, path, refusal);
+) -> Result<(), Failure> {
+    match written {
+        Ok(()) => Ok(()),
+        Err(refusal) => {
+            let words = of_unwritten(rt, alloc, path, &refusal);
+            Err(Failure { refusal, words })
+        }
     }
-    written
 }
 
-/// Writes a record to the file of a path, if there is one, and its entries go; `words` gets why that was refused.
+/// Writes a record to the file of a path, if there is one, and its entries go. Where that is refused the failure's words tell why.
 pub(crate) fn keep<R: Files>(
     rt: &R,
     alloc: Global,
     history: &mut Record,
     path: Option<&str>,
-    words: &mut Option<String>,
-) -> Result<(), Refusal> {
+) -> Result<(), Failure> {
     let Some(path) = path else {
         return Ok(());
     };
     let written = give_out(rt, alloc, history, path);
-    told_of(rt, alloc, path, written, words)
+    told_of(rt, alloc, path, written)
 }
 
 /// Writes what each head tells of itself, on standard error.
@@ -267,7 +268,7 @@ fn finish<R: Clock + Eprint, E: Sink>(
     ended: &Ended,
     seen: &Seen<'_, R>,
     errors: &mut E,
-) -> Result<u8, Refusal>
+) -> Result<u8, Failure>
     ensures { IfOk result (λ status. status ≡ (if ended.now.has_refused then 3 else 0)) }
 {
     if ended.has_refused && run.form != Form::Lines {
@@ -302,62 +303,61 @@ impl Run<'_> {
         }
     }
 
-    /// Puts into words why the run that this refusal ended was not made.
-    fn tell<R: Files + RandomSource + Clock + Eprint>(
+    /// The failure of the run that this refusal ended, whose words tell why it was not made.
+    fn failure<R: Files + RandomSource + Clock + Eprint>(
         &self,
-        rt: &R,
         alloc: Global,
         seen: &Seen<'_, R>,
-        refusal: &Refusal,
+        refusal: Refusal,
         kept: Keeps,
-    ) -> Option<String> {
-        match refusal {
-            Refusal::Output => of_output(alloc, seen.reader(), refusal),
-            _ => words(rt, alloc, &self.asking(), refusal, kept),
-        }
+    ) -> Failure {
+        let words = match &refusal {
+            Refusal::Output => of_output(alloc, seen.reader(), &refusal),
+            _ => words(seen.rt(), alloc, &self.asking(), &refusal, kept),
+        };
+        Failure { refusal, words }
     }
 
-    /// Writes the replies in the form that is asked, where they did not go out as lines; `words` gets why that was refused.
+    /// Writes the replies in the form that is asked, where they did not go out as lines. Where that is refused the failure's words
+    /// tell why.
     fn shape<R: Clock + Print + Eprint>(
         &self,
         alloc: Global,
         seen: &Seen<'_, R>,
         history: &Record,
         script: Option<&[u8]>,
-        words: &mut Option<String>,
-    ) -> Result<(), Refusal> {
+    ) -> Result<(), Failure> {
         let out = Outflow::new(io::writer(seen.rt()), seen.reader());
         match shape(alloc, self.form, history, script, out) {
             Ok(()) => Ok(()),
             Err(refusal) => {
-                *words = match &refusal {
+                let words = match &refusal {
                     Refusal::Output => of_output(alloc, seen.reader(), &refusal),
                     _ => of_form(alloc, &refusal, self.script),
                 };
-                Err(refusal)
+                Err(Failure { refusal, words })
             }
         }
     }
 
-    /// Writes what the run leaves in files: its history, then the log of its calls; `words` gets why one was refused. The
-    /// record may have no entries behind it.
+    /// Writes what the run leaves in files: its history, then the log of its calls. Where one is refused the failure's words tell
+    /// which, and why. The record may have no entries behind it.
     fn leave<R: Files>(
         &self,
         rt: &R,
         alloc: Global,
         history: &mut Record,
         times: Option<Times>,
-        words: &mut Option<String>,
-    ) -> Result<(), Refusal> {
+    ) -> Result<(), Failure> {
         let (Some(times), Some(log)) = (times, self.log) else {
-            return keep(rt, alloc, history, self.history, words);
+            return keep(rt, alloc, history, self.history);
         };
         if let Some(path) = self.history {
             let written = keep_whole(rt, alloc, history, path);
-            told_of(rt, alloc, path, written, words)?;
+            told_of(rt, alloc, path, written)?;
         }
         let written = keep_log(rt, alloc, history, times, log);
-        told_of(rt, alloc, log, written, words)
+        told_of(rt, alloc, log, written)
     }
 
     /// Makes the run: the replies go to standard output, then the history and the log to their files, then what the heads
@@ -365,18 +365,12 @@ impl Run<'_> {
     /// the table or the script cannot be opened or the system gives no random bytes for the key of texts, and `Output` where
     /// the history, the log or `errors` cannot be written.
     ///
-    /// What a refusal means is put into `words`, as lines, where words can be found: where it is, what is wrong there, and
-    /// what was wanted.
+    /// The failure's words tell what the refusal means, as lines, where words can be found: where it is, what is wrong there,
+    /// and what was wanted.
     pub fn make<
         R: Files + RandomSource + Clock + Print + Eprint + Input + Threads + Wait + Sync,
         E: Sink,
-    >(
-        &self,
-        rt: &R,
-        alloc: Global,
-        errors: &mut E,
-        words: &mut Option<String>,
-    ) -> Result<u8, Refusal>
+    >(&self, rt: &R, alloc: Global, errors: &mut E) -> Result<u8, Failure>
         ensures { IfOk result (λ status. (status ≡ 0) ⊎ (status ≡ 3)) }
     {
         let seen = Seen::new(rt, self.sights, self.log.is_some());
@@ -385,15 +379,12 @@ impl Run<'_> {
         let Came { ended, kept } = run_named(rt, alloc, self, &watch);
         let mut ended = match ended {
             Ok(ended) => ended,
-            Err(refusal) => {
-                *words = self.tell(rt, alloc, &seen, &refusal, kept);
-                return Err(refusal);
-            }
+            Err(refusal) => return Err(self.failure(alloc, &seen, refusal, kept)),
         };
         watch.answers_last()?;
         let script = script_bytes(self.script, &kept.script);
-        self.shape(alloc, &seen, &ended.run.history, script, words)?;
-        self.leave(rt, alloc, &mut ended.run.history, watch.into_times(), words)?;
+        self.shape(alloc, &seen, &ended.run.history, script)?;
+        self.leave(rt, alloc, &mut ended.run.history, watch.into_times())?;
         finish(self, &ended, &seen, errors)
     }
 }

@@ -6,20 +6,20 @@ use crate::running::keep;
 use crate::terminal::Terminal;
 use std::alloc::Global;
 use std::io;
-use std::io::{BufRead, BufReader};
+use std::io::BufReader;
 use std::random::RandomSource;
 use std::rt::{Clock, Files};
 use std::sync::Wait;
 use std::thread::Threads;
 use sw_cli::{Options, blank_boxes};
 use sw_commands::{
-    Asking, Clash, Inflow, Keeping, Keeps, Kept, Outflow, Place, Reader, Script, Settings,
-    is_read_once, of_output, of_unread, open_table, words,
+    Asking, Clash, Failure, Inflow, Keeping, Keeps, Kept, Outflow, Place, Reader, Script, Seen,
+    Settings, Sights, is_read_once, of_output, of_unread, open_table, words,
 };
 use sw_headers::Headed;
 use sw_lang::write_all;
 use sw_rows::{Counted, Refusal, Schema, Sink, Source, TextKey, load_in_parts};
-use sw_shell::{Console, Ended, Host, converse};
+use sw_shell::{Console, Ended, converse};
 
 /// A table that is open, of which is kept what can be read only once.
 type Table<F, I> = Keeping<Counted<Headed<Inflow<'static, F, I>>>>;
@@ -72,69 +72,72 @@ impl Shell<'_> {
         }
     }
 
-    /// Puts a refusal of the table into words.
-    fn tell<R: Files + RandomSource>(
+    /// The failure of a shell whose table was refused, of which this was kept. Its words tell what is wrong there.
+    fn failure<R: Files + RandomSource>(
         &self,
         rt: &R,
         alloc: Global,
-        refusal: &Refusal,
+        refusal: Refusal,
         kept: Kept,
-    ) -> Option<String> {
+    ) -> Failure {
         let kept = Keeps {
             table: kept,
             script: Kept::Often,
         };
-        words(rt, alloc, &self.asking(), refusal, kept)
+        let words = words(rt, alloc, &self.asking(), &refusal, kept);
+        Failure { refusal, words }
     }
 
-    /// Talks over a table that is open.
-    fn talk<R: Threads + Wait + Sync, T: Source, B: BufRead + Drop, W: Sink + Drop, H: Host + Drop>(
+    /// The same of a table that was refused while it was read.
+    fn failure_in<R: Files + RandomSource, T: Source + Drop>(
         &self,
         rt: &R,
         alloc: Global,
-        key: TextKey,
-        table: &mut T,
-        console: &mut Console<B, W, H>,
-    ) -> Result<Ended, Refusal> {
-        let settings = &self.settings;
-        let maps = blank_boxes(alloc, settings.budget, settings.maps)?;
-        let options = Options {
-            limit: settings.limit.rows,
-            cuts: settings.cuts,
-            threads: false,
-            key,
-        };
-        converse(rt, alloc, table, &options, maps, console)
+        refusal: Refusal,
+        table: Keeping<T>,
+    ) -> Failure {
+        let refusal = table.why(refusal);
+        self.failure(rt, alloc, refusal, table.into_kept())
     }
 
-    /// Opens the table. Refused `Input` where that cannot be done, which is put into words, and `NoMemory`.
+    /// Opens the table. Refused `Input` where that cannot be done, of which the failure's words tell why, and `NoMemory`.
     fn open<R: Files + RandomSource + Input>(
         &self,
         rt: &R,
         alloc: Global,
-        words: &mut Option<String>,
-    ) -> Result<Table<R::File, R::Reader>, Refusal> {
+    ) -> Result<Table<R::File, R::Reader>, Failure> {
         match open_table(rt, alloc, self.table, self.header) {
             Ok(source) => {
                 let kept = Kept::new(alloc, is_read_once(rt, self.table));
                 Ok(Keeping::new(Counted::new(source), kept))
             }
-            Err(refusal) => {
-                *words = self.tell(rt, alloc, &refusal, Kept::Often);
-                Err(refusal)
-            }
+            Err(refusal) => Err(self.failure(rt, alloc, refusal, Kept::Often)),
         }
     }
 
-    /// The path of the history's file, if there is one.
-    fn history_path(&self, alloc: Global) -> Result<Option<String>, Refusal> {
-        match self.history {
-            Some(path) => match String::from_str(alloc, path) {
-                Ok(path) => Ok(Some(path)),
-                Err(_) => Err(Refusal::NoMemory),
-            },
-            None => Ok(None),
-        }
+    /// What is left to do when no more lines are taken: the history is kept, in the file that a line named or else in the shell's own,
+    /// also where a failure ended the shell, by which it is refused then.
+    fn finish<R: Files + Clock + Eprint>(
+        &self,
+        seen: &Seen<'_, R>,
+        alloc: Global,
+        mut ended: Ended,
+        named: Option<String>,
+    ) -> Result<(), Failure> {
+        let path = match &named {
+            Some(path) => Some(path.as_str()),
+            None => self.history,
+        };
+        keep(seen.rt(), alloc, &mut ended.history, path)?;
+        let Ended { failure, .. } = ended;
+        let Some(refusal) = failure else {
+            return Ok(());
+        };
+        let words = match &refusal {
+            Refusal::Input => of_unread(seen.rt(), alloc, Place::new("-"), &refusal),
+            _ => of_output(alloc, seen.reader(), &refusal),
+        };
+        Err(Failure { refusal, words })
     }
 
     /// Begins the shell: reads the table, and then answers each line of standard input when it is entered, on standard output;
@@ -142,43 +145,38 @@ impl Shell<'_> {
     ///
     /// Answers the exit status: 0 where all was answered and obeyed; 3 where a call or a file that was to be written was refused;
     /// else 2, where a line was. Refused as a run is before its first call, and where standard input, standard output or the
-    /// history's file fails; what a refusal means is put into `words`.
+    /// history's file fails; the failure's words tell what that means, where they can be found.
     pub fn make<
         R: Files + RandomSource + Clock + Print + Eprint + Input + Threads + Wait + Sync,
         E: Sink,
-    >(
-        &self,
-        rt: &R,
-        alloc: Global,
-        errors: &mut E,
-        words: &mut Option<String>,
-    ) -> Result<u8, Refusal> {
+    >(&self, rt: &R, alloc: Global, errors: &mut E) -> Result<u8, Failure> {
         let key = TextKey::new(rt)?;
-        let history = self.history_path(alloc)?;
-        let mut table = self.open(rt, alloc, words)?;
-        let Ok(lines) = BufReader::new(alloc, rt.reader()) else {
-            return Err(Refusal::NoMemory);
+        let mut table = self.open(rt, alloc)?;
+        let maps = blank_boxes(alloc, self.settings.budget, self.settings.maps)?;
+        let options = Options {
+            limit: self.settings.limit.rows,
+            cuts: self.settings.cuts,
+            threads: false,
+            key,
         };
-        let reader = Reader::new();
+        let Ok(lines) = BufReader::new(alloc, rt.reader()) else {
+            return Err(Failure::from(Refusal::NoMemory));
+        };
+        let seen = Seen::new(rt, Sights::of_progress(false), false);
         let mut console = Console {
             lines,
-            out: Counted::new(Outflow::new(io::writer(rt), &reader)),
-            host: Terminal::new(rt, alloc, key, self, &reader, errors, history),
+            out: Counted::new(Outflow::new(io::writer(rt), seen.reader())),
+            host: Terminal::new(&seen, alloc, key, self, errors),
         };
-        let ended = self.talk(rt, alloc, key, &mut table, &mut console);
+        let ended = converse(rt, alloc, &mut table, &options, maps, &mut console);
         let Console { host, .. } = console;
-        let (history, status) = host.into_end();
+        let (named, status) = host.into_end();
         match ended {
             Ok(ended) => {
-                let reader = &reader;
-                finish(rt, alloc, ended, history, Telling { reader, words })?;
+                self.finish(&seen, alloc, ended, named)?;
                 Ok(status)
             }
-            Err(refusal) => {
-                let refusal = table.why(refusal);
-                *words = self.tell(rt, alloc, &refusal, table.into_kept());
-                Err(refusal)
-            }
+            Err(refusal) => Err(self.failure_in(rt, alloc, refusal, table)),
         }
     }
 
@@ -188,30 +186,20 @@ impl Shell<'_> {
         &self,
         rt: &R,
         alloc: Global,
-        words: &mut Option<String>,
-    ) -> Result<u8, Refusal>
+    ) -> Result<u8, Failure>
         ensures { IfOk result (λ status. status ≡ 0) }
     {
         let key = TextKey::new(rt)?;
-        let mut table = self.open(rt, alloc, words)?;
+        let mut table = self.open(rt, alloc)?;
         match load_in_parts(rt, alloc, key, &mut table) {
-            Ok((schema, _)) => print_words(rt, alloc, &schema, words),
-            Err(refusal) => {
-                let refusal = table.why(refusal);
-                *words = self.tell(rt, alloc, &refusal, table.into_kept());
-                Err(refusal)
-            }
+            Ok((schema, _)) => print_words(rt, alloc, &schema),
+            Err(refusal) => Err(self.failure_in(rt, alloc, refusal, table)),
         }
     }
 }
 
-/// Writes the words that a line may have to standard output; `why` gets the words where that was refused. Answers 0.
-fn print_words<R: Print>(
-    rt: &R,
-    alloc: Global,
-    schema: &Schema,
-    why: &mut Option<String>,
-) -> Result<u8, Refusal>
+/// Writes the words that a line may have to standard output. Answers 0. Where that is refused the failure's words tell why.
+fn print_words<R: Print>(rt: &R, alloc: Global, schema: &Schema) -> Result<u8, Failure>
     ensures { IfOk result (λ status. status ≡ 0) }
 {
     let reader = Reader::new();
@@ -219,40 +207,8 @@ fn print_words<R: Print>(
     match write_words(schema, &mut out) {
         Ok(()) => Ok(0),
         Err(refusal) => {
-            *why = of_output(alloc, &reader, &refusal);
-            Err(refusal)
+            let words = of_output(alloc, &reader, &refusal);
+            Err(Failure { refusal, words })
         }
     }
-}
-
-/// Who reads what a shell writes, and where it is told in words why that failed.
-#[derive(Drop)]
-struct Telling<'t> {
-    reader: &'t Reader,
-    words: &'t mut Option<String>,
-}
-
-/// What is left to do when no more lines are taken: the history is kept, also where a failure ended the shell, by which it is refused
-/// then.
-fn finish<R: Files>(
-    rt: &R,
-    alloc: Global,
-    mut ended: Ended,
-    path: Option<String>,
-    telling: Telling<'_>,
-) -> Result<(), Refusal> {
-    let path = match &path {
-        Some(path) => Some(path.as_str()),
-        None => None,
-    };
-    keep(rt, alloc, &mut ended.history, path, telling.words)?;
-    let Ended { failure, .. } = ended;
-    let Some(refusal) = failure else {
-        return Ok(());
-    };
-    *telling.words = match &refusal {
-        Refusal::Input => of_unread(rt, alloc, Place::new("-"), &refusal),
-        _ => of_output(alloc, telling.reader, &refusal),
-    };
-    Err(refusal)
 }

@@ -6,7 +6,7 @@ use std::io;
 use std::rt::{Clock, Files};
 use std::time::{Duration, Instant};
 use sw_cli::{HeadStats, head_of, status, write_fault, write_stats_line, write_stats_title};
-use sw_commands::{Clash, Outflow, Place, Reader, Script, is_output, of_unwritten};
+use sw_commands::{Clash, Outflow, Place, Reader, Script, Seen, is_output, of_unwritten};
 use sw_faults::wrong_line;
 use sw_files::begin_file;
 use sw_lang::{kind_name, write_all, write_number};
@@ -92,7 +92,8 @@ pub(crate) struct Terminal<'t, 'p, 'o, 'e, R: Files + Clock + Print + Eprint, E:
     prompts: bool,
     greeted: bool,
     times: Times,
-    history: Option<String>,
+    /// The file that a line named for the history, if one did.
+    named: Option<String>,
     status: u8,
 }
 
@@ -163,40 +164,33 @@ fn write_names<W: Sink>(schema: &Schema, out: &mut W) -> Result<(), Refusal> {
 }
 
 impl<'t, 'p, 'o, 'e, R: Files + Clock + Print + Eprint, E: Sink> Terminal<'t, 'p, 'o, 'e, R, E> {
-    /// What stands around a shell, whose standard output has this reader, and which keeps its history in the file of a path, if there
-    /// is one.
+    /// What stands around a shell, of which no line was taken yet.
     pub(crate) fn new(
-        rt: &'t R,
+        seen: &'o Seen<'t, R>,
         alloc: Global,
         key: TextKey,
         shell: &Shell<'p>,
-        reader: &'o Reader,
         errors: &'e mut E,
-        history: Option<String>,
     ) -> Terminal<'t, 'p, 'o, 'e, R, E> {
         Terminal {
-            rt,
+            rt: seen.rt(),
             alloc,
             key,
             table: shell.table,
-            reader,
+            reader: seen.reader(),
             errors,
             prompts: shell.prompts,
             greeted: false,
             times: Times::new(),
-            history,
+            named: None,
             status: 0,
         }
     }
 
-    /// Where the history is to be kept, if anywhere, and the greatest status of what was refused.
+    /// The file that a line named for the history, if one did, and the greatest status of what was refused.
     pub(crate) fn into_end(self) -> (Option<String>, u8) {
-        let Terminal {
-            history,
-            status,
-            ..
-        } = self;
-        (history, status)
+        let Terminal { named, status, .. } = self;
+        (named, status)
     }
 
     /// Standard output.
@@ -282,7 +276,7 @@ impl<'t, 'p, 'o, 'e, R: Files + Clock + Print + Eprint, E: Sink> Terminal<'t, 'p
         }
         match String::from_str(self.alloc, file) {
             Ok(file) => {
-                self.history = Some(file);
+                self.named = Some(file);
                 Ok(())
             }
             Err(_) => self.tell(&Refusal::NoMemory),
