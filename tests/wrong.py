@@ -16,15 +16,14 @@ function's body. Each of these ends the trial with status 1.
 The libraries below a crate are those that `rt ci` or `rt lib` left; one that is not made of the text that stands is proved first. Every
 trial begins with its own test: a control beside a wrong body of what it calls, and texts that cannot be tried.
 
-Bodies that an earlier trial on this machine saw refused, of the same files over the same libraries, by the same toolchain and the same text
-of this file, are not tried again, as `rt ci` does not prove again what it proved; with `--anew` they are.
+A body that an earlier trial on this machine saw refused, of the same files of its crate and of those below, by the same toolchain and the same
+text of this file, is not tried again, as `rt ci` proves nothing again that it proved; with `--anew` it is.
 """
 import argparse
 import collections
 import contextlib
 import glob
 import hashlib
-import json
 import os
 import re
 import shutil
@@ -33,11 +32,9 @@ import sys
 import tempfile
 from concurrent.futures import ThreadPoolExecutor
 
-import bodies as making
 from bodies import TOP, Unfit, changed, lemma_of, pairs_of, path_of, spans_of, text_of
 
 SECONDS = 1800  # of one check
-STORE = f"{os.environ.get('XDG_CACHE_HOME') or os.path.expanduser('~/.cache')}/sideways/wrong"
 PLACE = re.compile(r"(?:\./|note: )?((?:src|proofs)/\S+?):(\d+):\d+: (.*)")
 HOLE = re.compile(r"^-- (src/\S+:\d+:\d+)\npub (\S+) : .*\n\2 .*= \?$", re.M)
 # What an error says where a text names what is not there.
@@ -171,37 +168,53 @@ class Trial:
         return [(body, *((found[body], "") if body in found else self.alone(body))) for body in bodies]
 
 
+def store():
+    """The folder where refusals are kept on this machine; none where it can be no folder of one's own."""
+    folder = f"{os.environ.get('XDG_CACHE_HOME') or os.path.expanduser('~/.cache')}/sideways/wrong"
+    with contextlib.suppress(OSError):
+        if os.path.isabs(folder):
+            os.makedirs(folder, 0o700, exist_ok=True)
+            return folder if os.stat(folder).st_uid == os.getuid() else None
+    return None
+
+
 class Refusals:
-    """What earlier trials on this machine saw refused. An entry's name is the sum of all that it was made from."""
+    """The refusals that trials on this machine saw: a file for each body, whose name is the sum of all that the trial read."""
 
-    def __init__(self, is_anew):
-        self.is_anew, self.kept = is_anew, set()
+    def __init__(self, rtlib, crates):
+        self.rtlib, self.crates, self.folder = rtlib, crates, store()
+        self.sums = self.sum_all()
 
-    def place(self, trial, bodies):
-        """Where it stands that these bodies of a crate were refused."""
-        made_from = [trial.crate.stamp(), text_of(__file__), text_of(making.__file__), [(it.crate, it.name, it.pairs) for it in bodies]]
-        return f"{STORE}/{hashlib.sha256(repr(made_from).encode()).hexdigest()}"
+    def sum_all(self):
+        """For each crate the sum of what it is made from: its files and words, those of the crates below, the toolchain and these scripts."""
+        sum_of = lambda it: hashlib.sha256(repr(it).encode()).hexdigest()
+        tools = [text_of(it) for it in (f"{self.rtlib.KIT}/WHAT", __file__, f"{TOP}/tests/bodies.py")]
+        own = {}
+        for crate in self.crates.values():
+            files = [(os.path.relpath(it, crate.folder), self.rtlib.sum_of(it)) for it in self.rtlib.files_of(crate.folder)]
+            own[crate.name] = sum_of([crate.name, crate.said, crate.has_c, sorted(files)])
+        return {it.name: sum_of([tools, own[it.name], sorted(own[low.name] for low in it.below())]) for it in self.crates.values()}
 
-    def told(self, trial, bodies):
-        """What these bodies came to: what is kept, or what they come to now, which is kept where all are refused."""
-        place = self.place(trial, bodies)
+    def place(self, body):
+        name = repr([self.sums[body.crate], body.name, body.pairs])
+        return f"{self.folder}/{hashlib.sha256(name.encode()).hexdigest()}"
+
+    def line(self, body):
+        """The line by which an earlier trial saw this body refused; empty where none did."""
         with contextlib.suppress(OSError, ValueError):
-            lines = [] if self.is_anew else json.loads(text_of(place))
-            if len(lines) == len(bodies):
-                self.kept.add(trial)
-                return [(body, line, "") for body, line in zip(bodies, lines)]
-        found = trial.told(bodies)
-        if not any(fault for _, _, fault in found):
-            self.keep(place, [line for _, line, _ in found])
-        return found
+            title, _, line = text_of(self.place(body)).partition("\n") if self.folder else ("", "", "")
+            return line.strip() if title == f"{body.crate}/{body.name}" else ""
+        return ""
 
-    def keep(self, place, lines):
-        """Keeps these lines, in a file that is written apart and then renamed."""
-        with contextlib.suppress(OSError):
-            os.makedirs(STORE, 0o700, exist_ok=True)
-            with tempfile.NamedTemporaryFile("w", dir=STORE, delete=False, encoding="utf-8") as it:
-                json.dump(lines, it)
-            os.replace(it.name, place)
+    def keep(self, told):
+        """Keeps the lines of these bodies, but of crates of which a file was changed since the trial began."""
+        now = self.sum_all() if self.folder and told else {}
+        for body, line in told.items():
+            if now.get(body.crate) == self.sums[body.crate]:
+                with contextlib.suppress(OSError):
+                    with open(f"{self.place(body)}.{os.getpid()}", "w", encoding="utf-8") as it:
+                        it.write(f"{body.crate}/{body.name}\n{line}\n")
+                    os.replace(it.name, self.place(body))
 
 
 def is_read(result):
@@ -298,13 +311,13 @@ def stands(crate, name, path):
         raise Unfit(f"there is no lemma {lemma[1]} in {lemma[2]}")
 
 
-def tell(name, bodies, seconds, kept):
+def tell(name, bodies, seconds, earlier):
     """Prints what the bodies of a crate came to, and how many of them an earlier trial saw refused, and gives how many were not refused."""
     lost = sum(bool(fault) for _, _, fault in bodies)
     text = "".join(f"wrong: {it.crate}/{it.name}: {fault or 'refused: ' + line[:160]}\n" for it, line, fault in bodies)
     # (in one piece, beside what other tests print)
-    earlier = f", {kept} of them by an earlier trial of the same files" if kept else ""
-    print(f"{text}wrong: {name}: {len(bodies) - lost} of {len(bodies)} refused{earlier}, {seconds:.0f} s of a processor", flush=True)
+    seen = f", {earlier} of them by an earlier trial of the same files" if earlier else ""
+    print(f"{text}wrong: {name}: {len(bodies) - lost} of {len(bodies)} refused{seen}, {seconds:.0f} s of a processor", flush=True)
     return lost
 
 
@@ -331,22 +344,27 @@ def main():
         print(f"wrong: the library {low.name} does not stand, of the text as it is: it is proved first", flush=True)
         if low.build_rlib(["--jobs", "1"], anew=False):
             sys.exit(f"wrong: {low.name} is not proved")
+    refusals = Refusals(rtlib, crates)
+    earlier = {} if given.anew else {body: line for body in good if (line := refusals.line(body))}
     names = [it for it in crates if any(body.crate == it for body in good)]
-    lists = [(name, Trial(crates[name], rtlib), it) for name in names for it in batches([body for body in good if body.crate == name])]
-    refusals = Refusals(given.anew)
+    left = lambda name: [body for body in good if body.crate == name and body not in earlier]
+    lists = [(name, Trial(crates[name], rtlib), it) for name in names for it in batches(left(name))]
     with ThreadPoolExecutor(given.jobs) as pool:
         test = pool.submit(tests_itself, rtlib, crates)
         # (the largest first, so that none is left alone at the end)
-        runs = {id(it): pool.submit(refusals.told, it[1], it[2]) for it in sorted(lists, key=lambda it: -it[1].crate.count(rb"\n"))}
+        runs = {id(it): pool.submit(it[1].told, it[2]) for it in sorted(lists, key=lambda it: -it[1].crate.count(rb"\n"))}
         wrong = test.result()
         for line in wrong:
             print(f"wrong: its own test FAILED: {line}", flush=True)
-        lost = len(bad) + len(wrong)
+        lost, refused = len(bad) + len(wrong), {}
         for name in names:
             own = [it for it in lists if it[0] == name]
+            before = [(body, line, "") for body, line in earlier.items() if body.crate == name]
             found = [told for it in own for told in runs[id(it)].result()]
-            kept = sum(len(it[2]) for it in own if it[1] in refusals.kept)
-            lost += tell(name, found, sum(it[1].seconds for it in own), kept)
+            refused.update({body: line for body, line, fault in found if not fault})
+            lost += tell(name, before + found, sum(it[1].seconds for it in own), len(before))
+    if not wrong:
+        refusals.keep(refused)
     print(f"wrong: {len(good)} bodies, {lost} faults")
     return 1 if lost else 0
 

@@ -27,6 +27,6 @@ cat "$work/table.md"
 tail -n 1 "$work/ci.log" >&2
 [ "$status" = 0 ] && [ -n "$(ls tests/wrong)" ] || exit "$status"
 python3 bench/stamps.py "$(dirname "$(rt doc)")"
-python3 tests/wrong.py --jobs "$RT_JOBS" >"$work/wrong.log" || status=$?
+python3 tests/wrong.py --anew --jobs "$RT_JOBS" >"$work/wrong.log" || status=$?
 grep ' of a processor$' "$work/wrong.log"
 exit "$status"
