@@ -100,10 +100,7 @@ pub fn check_path<R: Files + RandomSource + Print>(
     let place = Place::new(path);
     let bytes = match read_file(rt, alloc, place.path()) {
         Ok(bytes) => bytes,
-        Err(refusal) => {
-            let words = wording::of_file(rt, alloc, place, &refusal);
-            return Err(Failure { refusal, words });
-        }
+        Err(refusal) => return Err(Failure::of_file(rt, alloc, place, refusal)),
     };
     let reader = Reader::new();
     match check_bytes(rt, alloc, bytes.as_slice(), telling, &reader) {

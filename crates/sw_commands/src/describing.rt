@@ -6,7 +6,7 @@ use crate::failure::Failure;
 use crate::inputs::{Keeping, Kept, Place, is_read_once, open_table};
 use crate::outflow::{Outflow, Reader};
 use crate::shaping::flush;
-use crate::wording::{Asking, Keeps, of_output, words};
+use crate::wording::{Asking, Keeps, words};
 use std::alloc::{AllocError, Global};
 use std::hash::RandomState;
 use std::io;
@@ -184,10 +184,7 @@ impl Description<'_> {
         let reader = Reader::new();
         match describe(rt, alloc, self.is_json, table, &reader) {
             Ok(status) => Ok(status),
-            Err(refusal) => {
-                let words = of_output(alloc, &reader, &refusal);
-                Err(Failure { refusal, words })
-            }
+            Err(refusal) => Err(Failure::of_output(alloc, &reader, refusal)),
         }
     }
 

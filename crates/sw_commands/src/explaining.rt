@@ -5,7 +5,6 @@ ghost use Rattle.std.specs.Prelude.{◌≡◌, ◌≤◌, IfOk, IfSome};
 use crate::failure::Failure;
 use crate::outflow::{Outflow, Reader};
 use crate::shaping::flush;
-use crate::wording::of_output;
 use std::alloc::Global;
 use std::io;
 use std::io::{BufWriter, Write};
@@ -166,9 +165,6 @@ pub fn explain<R: Print>(rt: &R, alloc: Global, only: Option<u64>) -> Result<u8,
     let reader = Reader::new();
     match write_all_of(alloc, only, Outflow::new(io::writer(rt), &reader)) {
         Ok(()) => Ok(0),
-        Err(refusal) => {
-            let words = of_output(alloc, &reader, &refusal);
-            Err(Failure { refusal, words })
-        }
+        Err(refusal) => Err(Failure::of_output(alloc, &reader, refusal)),
     }
 }

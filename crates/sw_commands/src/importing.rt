@@ -7,7 +7,7 @@ use crate::failure::Failure;
 use crate::inputs::{Place, open_place};
 use crate::outflow::{Outflow, Reader};
 use crate::seeing::{LinesSeen, Seen, Sights, What};
-use crate::wording::{called, of_output, of_unread, of_unwritten};
+use crate::wording::called;
 use std::alloc::{AllocError, Global};
 use std::io;
 use std::random::RandomSource;
@@ -187,10 +187,7 @@ impl Import<'_> {
         let place = Place::new(self.file);
         let bytes = match read_values(rt, alloc, place, self.progress) {
             Ok(bytes) => bytes,
-            Err(refusal) => {
-                let words = of_unread(rt, alloc, place, &refusal);
-                return Err(Failure { refusal, words });
-            }
+            Err(refusal) => return Err(Failure::of_unread(rt, alloc, place, refusal)),
         };
         let key = match TextKey::new(rt) {
             Ok(key) => key,
@@ -202,11 +199,7 @@ impl Import<'_> {
         let came = import_in_parts(rt, alloc, key, &self.how, bytes.as_slice());
         match self.more(alloc, &came, bytes.as_slice()) {
             Ok(more) if !is_memory(&came) => Ok((came, more)),
-            _ => {
-                let refusal = Refusal::NoMemory;
-                let words = of_unread(rt, alloc, place, &refusal);
-                Err(Failure { refusal, words })
-            }
+            _ => Err(Failure::of_unread(rt, alloc, place, Refusal::NoMemory)),
         }
     }
 
@@ -229,18 +222,14 @@ impl Import<'_> {
     ) -> Result<(), Failure> {
         if let Some(path) = self.dictionary {
             if let Err(refusal) = keep_dictionary(rt, alloc, path, made) {
-                let words = of_unwritten(rt, alloc, path, &refusal);
-                return Err(Failure { refusal, words });
+                return Err(Failure::of_unwritten(rt, alloc, path, refusal));
             }
         }
         let reader = Reader::new();
         let mut out = Counted::new(Outflow::new(io::writer(rt), &reader));
         match write_all(&mut out, made.bytes.as_slice()) {
             Ok(()) => Ok(()),
-            Err(refusal) => {
-                let words = of_output(alloc, &reader, &refusal);
-                Err(Failure { refusal, words })
-            }
+            Err(refusal) => Err(Failure::of_output(alloc, &reader, refusal)),
         }
     }
 

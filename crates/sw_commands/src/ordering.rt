@@ -11,7 +11,7 @@ use crate::inputs::Place;
 use crate::outflow::{Outflow, Reader};
 use crate::seeing::{Seen, Sights};
 use crate::settings::Limit;
-use crate::wording::{called, of_file, of_output, of_unwritten};
+use crate::wording::called;
 use std::alloc::Global;
 use std::io;
 use std::random::RandomSource;
@@ -53,13 +53,24 @@ pub struct Ordering<'a> {
     pub progress: bool,
 }
 
-/// Why no order is looked for.
+/// Why it is not known whether there is an order.
 #[derive(Drop)]
 enum Unread {
-    /// The command cannot be carried out.
+    /// The command was not carried out.
     Failed(Failure),
     /// A log is none, and what is told of it.
     Told(String),
+}
+
+impl From<Failure> for Unread {
+    ghost use Rattle.std.specs.Prelude.{◌≡◌};
+    ghost use Rattle.sw_commands.specs.declared.ordering.Unread.TheVariants.{Failed};
+
+    ghost from_gives = { λ failure unread. unread ≡ Failed failure };
+
+    fn from(failure: Failure) -> Unread {
+        Unread::Failed(failure)
+    }
 }
 
 impl From<Refusal> for Unread {
@@ -74,8 +85,8 @@ impl<R: Clock + Eprint + Sync> Onlooker for Seen<'_, R> {
     }
 }
 
-/// Why a log is none, in words.
-fn refused(alloc: Global, path: &str, bytes: &[u8], fault: &Fault) -> Unread {
+/// What is wrong with bytes that are no log, or the want of memory for them.
+fn not_a_log(alloc: Global, path: &str, bytes: &[u8], fault: &Fault) -> Unread {
     if let Fault::NoMemory = fault {
         return Unread::from(Refusal::NoMemory);
     }
@@ -90,10 +101,7 @@ fn bytes_of<R: Files>(rt: &R, alloc: Global, path: &str) -> Result<Vec<u8>, Unre
     let place = Place::new(path);
     match read_file(rt, alloc, place.path()) {
         Ok(bytes) => Ok(bytes),
-        Err(refusal) => {
-            let words = of_file(rt, alloc, place, &refusal);
-            Err(Unread::Failed(Failure { refusal, words }))
-        }
+        Err(refusal) => Err(Unread::from(Failure::of_file(rt, alloc, place, refusal))),
     }
 }
 
@@ -114,23 +122,30 @@ fn read_logs<R: Files>(
         let bytes = bytes_of(rt, alloc, *log)?;
         let mut source = Counted::new(bytes.as_slice());
         if let Err(fault) = read_log(alloc, schema, number, &mut source, calls) {
-            return Err(refused(alloc, *log, bytes.as_slice(), &fault));
+            return Err(not_a_log(alloc, *log, bytes.as_slice(), &fault));
         }
     }
     Ok(())
 }
 
-/// Reads the table.
+/// Reads the table. Where it cannot be opened or read the failure's words tell so.
 fn open_table<R: Files + RandomSource>(
     rt: &R,
     alloc: Global,
     ordering: &Ordering<'_>,
-) -> Result<Opening, Refusal>
+) -> Result<Opening, Failure>
     ensures { IfOk result IsOpening }
 {
-    let file = open_input(rt, Place::new(ordering.table).path())?;
+    let place = Place::new(ordering.table);
+    let file = match open_input(rt, place.path()) {
+        Ok(file) => file,
+        Err(refusal) => return Err(Failure::of_file(rt, alloc, place, refusal)),
+    };
     let key = TextKey::new(rt)?;
-    read_opening(alloc, key, &mut Counted::new(file), ordering.way.limit.rows)
+    match read_opening(alloc, key, &mut Counted::new(file), ordering.way.limit.rows) {
+        Ok(opening) => Ok(opening),
+        Err(refusal) => Err(Failure::of_file(rt, alloc, place, refusal)),
+    }
 }
 
 /// The rules of a search.
@@ -299,8 +314,8 @@ impl Ordering<'_> {
         None
     }
 
-    /// Writes the history of an order that was found, and from where its entries came. Answers the exit status. The failure's
-    /// words tell which of them cannot be written.
+    /// Writes the history of an order that was found, and from where its entries came. Answers the exit status. Where one of
+    /// them cannot be written the failure's words tell which.
     fn write<R: Files + Print>(
         &self,
         rt: &R,
@@ -311,8 +326,7 @@ impl Ordering<'_> {
         let reader = Reader::new();
         let mut out = Counted::new(Outflow::new(io::writer(rt), &reader));
         if let Err(refusal) = write_record(alloc, &order.history, &mut out) {
-            let words = of_output(alloc, &reader, &refusal);
-            return Err(Failure { refusal, words });
+            return Err(Failure::of_output(alloc, &reader, refusal));
         }
         let Some(path) = self.origins else {
             return Ok(0);
@@ -324,10 +338,7 @@ impl Ordering<'_> {
         }
         match keep_origins(rt, alloc, origins.inner.as_slice(), path) {
             Ok(()) => Ok(0),
-            Err(refusal) => {
-                let words = of_unwritten(rt, alloc, path, &refusal);
-                Err(Failure { refusal, words })
-            }
+            Err(refusal) => Err(Failure::of_unwritten(rt, alloc, path, refusal)),
         }
     }
 
@@ -336,21 +347,15 @@ impl Ordering<'_> {
     /// refused, and 3 where the search was given up.
     ///
     /// Refused as `read_opening` is, `Input` where the table or a log cannot be read or the system gives no random bytes for
-    /// the key of texts, and `Output` where what is found cannot be written. The failure's words tell which file was
-    /// refused.
+    /// the key of texts, and `Output` where what is found cannot be written. The failure's words tell which file
+    /// cannot be read or written.
     pub fn make<R: Files + RandomSource + Clock + Print + Eprint + Sync, E: Sink>(
         &self,
         rt: &R,
         alloc: Global,
         errors: &mut E,
     ) -> Result<u8, Failure> {
-        let opening = match open_table(rt, alloc, self) {
-            Ok(opening) => opening,
-            Err(refusal) => {
-                let words = of_file(rt, alloc, Place::new(self.table), &refusal);
-                return Err(Failure { refusal, words });
-            }
-        };
+        let opening = open_table(rt, alloc, self)?;
         let mut calls = Vec::new(alloc);
         let outcome = match order_over(rt, alloc, self, opening, &mut calls) {
             Ok(outcome) => outcome,

@@ -15,8 +15,8 @@ use sw_cli::{
 };
 use sw_commands::{
     Asking, Clash, Failure, Form, Keeping, Keeps, Kept, LinesSeen, Outflow, Place, Script, Seen,
-    Settings, Sights, What, are_ample, is_read_once, of_form, of_output, of_unwritten, open_script,
-    open_table, script_bytes, shape, words,
+    Settings, Sights, What, are_ample, is_read_once, of_form, of_output, open_script, open_table,
+    script_bytes, shape, words,
 };
 use sw_files::begin_file;
 use sw_lang::write_all;
@@ -212,8 +212,8 @@ fn give_out<R: Files>(
     file.end(rt, written)
 }
 
-/// What came of writing the file of a path. Where that was refused the failure's words tell why.
-fn told_of<R: Files>(
+/// What came of writing the file of a path: done, or why not.
+fn done_or_unwritten<R: Files>(
     rt: &R,
     alloc: Global,
     path: &str,
@@ -221,10 +221,7 @@ fn told_of<R: Files>(
 ) -> Result<(), Failure> {
     match written {
         Ok(()) => Ok(()),
-        Err(refusal) => {
-            let words = of_unwritten(rt, alloc, path, &refusal);
-            Err(Failure { refusal, words })
-        }
+        Err(refusal) => Err(Failure::of_unwritten(rt, alloc, path, refusal)),
     }
 }
 
@@ -239,7 +236,7 @@ pub(crate) fn keep<R: Files>(
         return Ok(());
     };
     let written = give_out(rt, alloc, history, path);
-    told_of(rt, alloc, path, written)
+    done_or_unwritten(rt, alloc, path, written)
 }
 
 /// Writes what each head tells of itself, on standard error.
@@ -354,10 +351,10 @@ impl Run<'_> {
         };
         if let Some(path) = self.history {
             let written = keep_whole(rt, alloc, history, path);
-            told_of(rt, alloc, path, written)?;
+            done_or_unwritten(rt, alloc, path, written)?;
         }
         let written = keep_log(rt, alloc, history, times, log);
-        told_of(rt, alloc, log, written)
+        done_or_unwritten(rt, alloc, log, written)
     }
 
     /// Makes the run: the replies go to standard output, then the history and the log to their files, then what the heads
