@@ -3,7 +3,7 @@
 ghost use Rattle.std.specs.Prelude.{◌≡◌, IfOk};
 
 use crate::running::keep;
-use crate::terminal::{Outputs, Terminal};
+use crate::terminal::Terminal;
 use std::alloc::Global;
 use std::io;
 use std::io::BufReader;
@@ -13,14 +13,13 @@ use std::sync::Wait;
 use std::thread::Threads;
 use sw_cli::{Options, blank_boxes};
 use sw_commands::{
-    Asking, Clash, Failure, Inflow, Keeping, Keeps, Kept, Outflow, Place, Reader, Script, Settings,
-    is_read_once, open_table, words,
+    Asking, Clash, Failure, Inflow, Keeping, Keeps, Kept, Outflow, Place, Reader, Script, Seen,
+    Settings, Sights, is_read_once, of_output, of_unread, open_table, words,
 };
 use sw_headers::Headed;
 use sw_lang::write_all;
 use sw_rows::{Counted, Refusal, Schema, Sink, Source, TextKey, load_in_parts};
 use sw_shell::{Console, Ended, converse};
-use sw_spine::Record;
 
 /// A table that is open, of which is kept what can be read only once.
 type Table<F, I> = Keeping<Counted<Headed<Inflow<'static, F, I>>>>;
@@ -116,18 +115,29 @@ impl Shell<'_> {
         }
     }
 
-    /// Keeps the history in the file that a line named, or else in the shell's own, if there is one.
-    fn keep<R: Files>(
+    /// What is left to do when no more lines are taken: the history is kept, in the file that a line named or else in the shell's own,
+    /// also where a failure ended the shell, by which it is refused then.
+    fn finish<R: Files + Clock + Eprint>(
         &self,
-        rt: &R,
+        seen: &Seen<'_, R>,
         alloc: Global,
-        history: &mut Record,
+        mut ended: Ended,
         named: Option<String>,
     ) -> Result<(), Failure> {
-        match &named {
-            Some(path) => keep(rt, alloc, history, Some(path.as_str())),
-            None => keep(rt, alloc, history, self.history),
-        }
+        let path = match &named {
+            Some(path) => Some(path.as_str()),
+            None => self.history,
+        };
+        keep(seen.rt(), alloc, &mut ended.history, path)?;
+        let Ended { failure: why, .. } = ended;
+        let Some(refusal) = why else {
+            return Ok(());
+        };
+        let words = match &refusal {
+            Refusal::Input => of_unread(seen.rt(), alloc, Place::new("-"), &refusal),
+            _ => of_output(alloc, seen.reader(), &refusal),
+        };
+        Err(Failure { refusal, words })
     }
 
     /// Begins the shell: reads the table, and then answers each line of standard input when it is entered, on standard output;
@@ -152,27 +162,21 @@ impl Shell<'_> {
         let Ok(lines) = BufReader::new(alloc, rt.reader()) else {
             return Err(Failure::from(Refusal::NoMemory));
         };
-        let reader = Reader::new();
-        let outputs = Outputs {
-            reader: &reader,
-            errors,
-        };
+        let seen = Seen::new(rt, Sights::of_progress(false), false);
         let mut console = Console {
             lines,
-            out: Counted::new(Outflow::new(io::writer(rt), &reader)),
-            host: Terminal::new(rt, alloc, key, self, outputs),
+            out: Counted::new(Outflow::new(io::writer(rt), seen.reader())),
+            host: Terminal::new(&seen, alloc, key, self, errors),
         };
         let ended = converse(rt, alloc, &mut table, &options, maps, &mut console);
         let Console { host, .. } = console;
         let (named, status) = host.into_end();
-        let mut ended = match ended {
-            Ok(ended) => ended,
-            Err(refusal) => return Err(self.failure_over(rt, alloc, refusal, table)),
-        };
-        self.keep(rt, alloc, &mut ended.history, named)?;
-        match ended.failure {
-            None => Ok(status),
-            Some(refusal) => Err(ended_by(rt, alloc, &reader, refusal)),
+        match ended {
+            Ok(ended) => {
+                self.finish(&seen, alloc, ended, named)?;
+                Ok(status)
+            }
+            Err(refusal) => Err(self.failure_over(rt, alloc, refusal, table)),
         }
     }
 
@@ -194,14 +198,6 @@ impl Shell<'_> {
     }
 }
 
-/// The failure of a shell that ended for want of its lines, or of a place for its replies.
-fn ended_by<R: Files>(rt: &R, alloc: Global, reader: &Reader, refusal: Refusal) -> Failure {
-    match refusal {
-        Refusal::Input => Failure::of_unread(rt, alloc, Place::new("-"), Refusal::Input),
-        refusal => Failure::of_output(alloc, reader, refusal),
-    }
-}
-
 /// Writes the words that a line may have to standard output. Answers 0. Where that is refused the failure's words tell why.
 fn print_words<R: Print>(rt: &R, alloc: Global, schema: &Schema) -> Result<u8, Failure>
     ensures { IfOk result (λ status. status ≡ 0) }
@@ -210,6 +206,9 @@ fn print_words<R: Print>(rt: &R, alloc: Global, schema: &Schema) -> Result<u8, F
     let mut out = Counted::new(Outflow::new(io::writer(rt), &reader));
     match write_words(schema, &mut out) {
         Ok(()) => Ok(0),
-        Err(refusal) => Err(Failure::of_output(alloc, &reader, refusal)),
+        Err(refusal) => {
+            let words = of_output(alloc, &reader, &refusal);
+            Err(Failure { refusal, words })
+        }
     }
 }

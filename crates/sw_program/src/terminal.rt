@@ -6,7 +6,7 @@ use std::io;
 use std::rt::{Clock, Files};
 use std::time::{Duration, Instant};
 use sw_cli::{HeadStats, head_of, status, write_fault, write_stats_line, write_stats_title};
-use sw_commands::{Clash, Outflow, Place, Reader, Script, is_output, of_unwritten};
+use sw_commands::{Clash, Outflow, Place, Reader, Script, Seen, is_output, of_unwritten};
 use sw_faults::wrong_line;
 use sw_files::begin_file;
 use sw_lang::{kind_name, write_all, write_number};
@@ -80,21 +80,15 @@ impl Times {
     }
 }
 
-/// Where a shell's text goes: to standard output, which this reader has, and what is wrong to `errors`.
-#[derive(Drop)]
-pub(crate) struct Outputs<'o, 'e, E: Sink> {
-    pub(crate) reader: &'o Reader,
-    pub(crate) errors: &'e mut E,
-}
-
-/// A terminal, or a pipe: replies and what commands tell go to standard output.
+/// A terminal, or a pipe: replies and what commands tell go to standard output, and what is wrong to `errors`.
 #[derive(Drop)]
 pub(crate) struct Terminal<'t, 'p, 'o, 'e, R: Files + Clock + Print + Eprint, E: Sink> {
     rt: &'t R,
     alloc: Global,
     key: TextKey,
     table: Place<'p>,
-    outputs: Outputs<'o, 'e, E>,
+    reader: &'o Reader,
+    errors: &'e mut E,
     prompts: bool,
     greeted: bool,
     times: Times,
@@ -172,18 +166,19 @@ fn write_names<W: Sink>(schema: &Schema, out: &mut W) -> Result<(), Refusal> {
 impl<'t, 'p, 'o, 'e, R: Files + Clock + Print + Eprint, E: Sink> Terminal<'t, 'p, 'o, 'e, R, E> {
     /// What stands around a shell, of which no line was taken yet.
     pub(crate) fn new(
-        rt: &'t R,
+        seen: &'o Seen<'t, R>,
         alloc: Global,
         key: TextKey,
         shell: &Shell<'p>,
-        outputs: Outputs<'o, 'e, E>,
+        errors: &'e mut E,
     ) -> Terminal<'t, 'p, 'o, 'e, R, E> {
         Terminal {
-            rt,
+            rt: seen.rt(),
             alloc,
             key,
             table: shell.table,
-            outputs,
+            reader: seen.reader(),
+            errors,
             prompts: shell.prompts,
             greeted: false,
             times: Times::new(),
@@ -200,7 +195,7 @@ impl<'t, 'p, 'o, 'e, R: Files + Clock + Print + Eprint, E: Sink> Terminal<'t, 'p
 
     /// Standard output.
     fn out(&self) -> Counted<Outflow<'o, io::Printer<'t, R>>> {
-        Counted::new(Outflow::new(io::writer(self.rt), self.outputs.reader))
+        Counted::new(Outflow::new(io::writer(self.rt), self.reader))
     }
 
     /// Writes a text to standard output.
@@ -211,15 +206,15 @@ impl<'t, 'p, 'o, 'e, R: Files + Clock + Print + Eprint, E: Sink> Terminal<'t, 'p
     /// A command is wrong: tells its line, and why.
     fn wrong(&mut self, line: Line<'_>, why: &[u8]) -> Result<(), Refusal> {
         self.status = self.status.max(2);
-        write_all(self.outputs.errors, b"sideways: line ")?;
-        write_number(line.number, self.outputs.errors)?;
-        write_all(self.outputs.errors, why)
+        write_all(self.errors, b"sideways: line ")?;
+        write_number(line.number, self.errors)?;
+        write_all(self.errors, why)
     }
 
     /// Tells a refusal, and counts its status.
     fn tell(&mut self, refusal: &Refusal) -> Result<(), Refusal> {
         self.status = self.status.max(status(refusal));
-        write_fault(refusal, self.outputs.errors)
+        write_fault(refusal, self.errors)
     }
 
     /// Writes what each head tells of itself.
@@ -266,7 +261,7 @@ impl<'t, 'p, 'o, 'e, R: Files + Clock + Print + Eprint, E: Sink> Terminal<'t, 'p
         };
         self.tell(&refusal)?;
         match of_unwritten(self.rt, self.alloc, file, &refusal) {
-            Some(words) => write_all(self.outputs.errors, words.as_bytes()),
+            Some(words) => write_all(self.errors, words.as_bytes()),
             None => Ok(()),
         }
     }
@@ -296,7 +291,7 @@ impl<'t, 'p, 'o, 'e, R: Files + Clock + Print + Eprint, E: Sink> Terminal<'t, 'p
         } else {
             b"times are not told\n"
         };
-        write_all(self.outputs.errors, told)
+        write_all(self.errors, told)
     }
 
     /// Tells what the call took that ended, where that is asked.
@@ -346,7 +341,7 @@ impl<R: Files + Clock + Print + Eprint, E: Sink> Host for Terminal<'_, '_, '_, '
     ) -> Result<(), Refusal> {
         self.tell(refusal)?;
         match words_of(self.alloc, self.key, schema, line) {
-            Ok(words) => write_all(self.outputs.errors, words.as_bytes()),
+            Ok(words) => write_all(self.errors, words.as_bytes()),
             Err(_) => Ok(()),
         }
     }
