@@ -32,4 +32,4 @@ pub use seeing::{LinesSeen, Seen, Sights, What};
 pub use settings::{Limit, Settings};
 pub use shaping::{Form, flush, script_bytes, shape};
 pub use stacks::are_ample;
-pub use wording::{Asking, Keeps, of_form, of_output, of_unread, of_unwritten, words};
+pub use wording::{Asking, Keeps, of_form, of_output, of_unwritten, words};

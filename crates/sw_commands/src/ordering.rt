@@ -62,18 +62,13 @@ enum Unread {
     Told(String),
 }
 
-impl From<Failure> for Unread {
-    ghost use Rattle.std.specs.Prelude.{◌≡◌};
+/// The failure of a refusal without words.
+impl From<Refusal> for Unread {
+    ghost use Rattle.std.specs.Prelude.{◌≡◌, None};
     ghost use Rattle.sw_commands.specs.declared.ordering.Unread.TheVariants.{Failed};
 
-    ghost from_gives = { λ failure unread. unread ≡ Failed failure };
+    ghost from_gives = { λ refusal unread. unread ≡ Failed (record { refusal = refusal; words = None }) };
 
-    fn from(failure: Failure) -> Unread {
-        Unread::Failed(failure)
-    }
-}
-
-impl From<Refusal> for Unread {
     fn from(refusal: Refusal) -> Unread {
         Unread::Failed(Failure::from(refusal))
     }
@@ -101,7 +96,7 @@ fn bytes_of<R: Files>(rt: &R, alloc: Global, path: &str) -> Result<Vec<u8>, Unre
     let place = Place::new(path);
     match read_file(rt, alloc, place.path()) {
         Ok(bytes) => Ok(bytes),
-        Err(refusal) => Err(Unread::from(Failure::of_file(rt, alloc, place, refusal))),
+        Err(refusal) => Err(Unread::Failed(Failure::of_file(rt, alloc, place, refusal))),
     }
 }
 

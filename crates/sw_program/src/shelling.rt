@@ -14,7 +14,7 @@ use std::thread::Threads;
 use sw_cli::{Options, blank_boxes};
 use sw_commands::{
     Asking, Clash, Failure, Inflow, Keeping, Keeps, Kept, Outflow, Place, Reader, Script, Seen,
-    Settings, Sights, is_read_once, of_output, of_unread, open_table, words,
+    Settings, Sights, is_read_once, open_table, words,
 };
 use sw_headers::Headed;
 use sw_lang::write_all;
@@ -133,11 +133,10 @@ impl Shell<'_> {
         let Some(refusal) = why else {
             return Ok(());
         };
-        let words = match &refusal {
-            Refusal::Input => of_unread(seen.rt(), alloc, Place::new("-"), &refusal),
-            _ => of_output(alloc, seen.reader(), &refusal),
-        };
-        Err(Failure { refusal, words })
+        Err(match refusal {
+            Refusal::Input => Failure::of_unread(seen.rt(), alloc, Place::new("-"), refusal),
+            _ => Failure::of_output(alloc, seen.reader(), refusal),
+        })
     }
 
     /// Begins the shell: reads the table, and then answers each line of standard input when it is entered, on standard output;
@@ -206,9 +205,6 @@ fn print_words<R: Print>(rt: &R, alloc: Global, schema: &Schema) -> Result<u8, F
     let mut out = Counted::new(Outflow::new(io::writer(rt), &reader));
     match write_words(schema, &mut out) {
         Ok(()) => Ok(0),
-        Err(refusal) => {
-            let words = of_output(alloc, &reader, &refusal);
-            Err(Failure { refusal, words })
-        }
+        Err(refusal) => Err(Failure::of_output(alloc, &reader, refusal)),
     }
 }
