@@ -41,17 +41,19 @@ fn write_more_cells<W: Sink>(
     Ok(())
 }
 
-/// The first cell and those after it.
+/// The cells of some attributes, of which this is the first.
 fn write_some_cells<W: Sink>(
     schema: &Schema,
     attr: usize,
     later: &[usize],
-    cell: &i64,
-    after: &[i64],
+    cells: &[i64],
     out: &mut W,
 ) -> Result<(), Refusal>
-    ensures { Wrote W.taken W.failed out.old out.new result (shown schema.now (attr ∷ later.now) (cell.now ∷ after.now)) }
+    ensures { Wrote W.taken W.failed out.old out.new result (shown schema.now (attr ∷ later.now) cells.now) }
 {
+    let Some((cell, after)) = cells.split_first() else {
+        return Ok(());
+    };
     write_cell(values_or_int(schema, attr), cell, out)?;
     write_more_cells(schema, later, after, out)
 }
@@ -65,13 +67,10 @@ pub(crate) fn write_cells<W: Sink>(
 ) -> Result<(), Refusal>
     ensures { Wrote W.taken W.failed out.old out.new result (shown schema.now attrs.now cells.now) }
 {
-    let Some((attr, later)) = attrs.split_first() else {
-        return Ok(());
-    };
-    let Some((cell, after)) = cells.split_first() else {
-        return Ok(());
-    };
-    write_some_cells(schema, *attr, later, cell, after, out)
+    match attrs.split_first() {
+        Some((attr, later)) => write_some_cells(schema, *attr, later, cells, out),
+        None => Ok(()),
+    }
 }
 
 /// A colon, a space and the cells of a row.
