@@ -1,7 +1,7 @@
 //! Calls of a map, and what is seen of it.
 
 use crate::moves::push_place;
-use crate::scenes::Watch;
+use crate::scenes::Stage;
 use std::alloc::{AllocError, Global};
 use std::sync::atomic::{AtomicU64, Ordering};
 use sw_map::{CrackerMap, Tail};
@@ -103,7 +103,7 @@ fn push_counts(counts: &Counts, text: &mut String) -> Result<(), AllocError> {
 /// Looks at a map.
 fn see<M: CrackerMap>(
     map: &M,
-    watch: Watch<'_>,
+    stage: Stage<'_>,
     act: Act<'_>,
     text: &mut String,
 ) -> Result<(), AllocError> {
@@ -116,17 +116,16 @@ fn see<M: CrackerMap>(
             write!(text, "{}", is_so && !map.is_blank())
         }
         Act::Blank => write!(text, "{}", map.is_blank() && map.cells() == 0),
-        Act::Counts => push_counts(watch.counts, text),
-        Act::Used => write!(text, "{}", watch.budget.used()),
+        Act::Counts => push_counts(stage.counts, text),
+        Act::Used => write!(text, "{}", stage.budget.used()),
         _ => Ok(()),
     }
 }
 
 /// Does something to a map, and tells what is seen.
 fn act_on<M: CrackerMap>(
-    alloc: Global,
+    stage: Stage<'_>,
     map: &mut M,
-    watch: Watch<'_>,
     act: Act<'_>,
     text: &mut String,
 ) -> Result<(), AllocError> {
@@ -136,7 +135,7 @@ fn act_on<M: CrackerMap>(
             push_answer(text, map.begin(head, tail, cells))
         }
         Act::Grow(cells) => grow(map, cells, text),
-        Act::Load(rows) => load(alloc, map, rows, text),
+        Act::Load(rows) => load(stage.alloc, map, rows, text),
         Act::Insert(row) => push_answer(text, replay(map, &Entry::Insert(row))),
         Act::Remove(place) => push_answer(text, replay(map, &Entry::Remove(place))),
         Act::Range(lower, upper) => push_answer(text, replay(map, &Entry::Range(lower, upper))),
@@ -144,37 +143,35 @@ fn act_on<M: CrackerMap>(
             map.clear();
             Ok(())
         }
-        _ => see(map, watch, act, text),
+        _ => see(map, stage, act, text),
     }
 }
 
 /// Does something to the map of a number, and tells what is seen.
 fn act_at<M: CrackerMap>(
-    alloc: Global,
+    stage: Stage<'_>,
     maps: &mut Vec<M>,
     number: usize,
-    watch: Watch<'_>,
     act: Act<'_>,
     text: &mut String,
 ) -> Result<(), AllocError> {
     match maps.get_mut(number) {
-        Some(map) => act_on(alloc, map, watch, act, text),
+        Some(map) => act_on(stage, map, act, text),
         None => text.push_str("no such map"),
     }
 }
 
 /// Does things to maps in order. Of the first that does not show what is expected it tells what it shows; else nothing.
 pub(crate) fn act_out<M: CrackerMap>(
-    alloc: Global,
+    stage: Stage<'_>,
     maps: &mut Vec<M>,
-    watch: Watch<'_>,
     acts: &[(usize, Act<'_>, &str)],
     text: &mut String,
 ) -> Result<(), AllocError> {
     for place in 0..acts.len() {
         let (number, act, expected) = acts[place];
         text.clear();
-        act_at(alloc, maps, number, watch, act, text)?;
+        act_at(stage, maps, number, act, text)?;
         if text.as_str() != expected {
             return write!(text, " at {place}");
         }

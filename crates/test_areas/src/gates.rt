@@ -6,7 +6,7 @@ ghost use Rattle.sw_map.specs.Held.{blank};
 use crate::acts::push_pairs;
 use crate::moves::{Move, push_place};
 use crate::scenes::{
-    FOUR_ROWS, Play, Script, THREE_BOXES, Watch, counting, play_script, tell_used,
+    FOUR_ROWS, Play, Script, Stage, THREE_BOXES, counting, play_script, tell_used,
 };
 use crate::shapes::add;
 use std::alloc::{AllocError, Global};
@@ -69,17 +69,13 @@ impl Flags {
 fn gated(
     alloc: Global,
     purse: &mut Purse,
-    flags: &Flags,
-    is_other: bool,
+    gate: Gate,
     counts: &Arc<Counts>,
 ) -> Result<Box<CountingMap<GatedMap<PairMap>>>, Refusal>
     ensures { IfOk result (λ m. ⟦<CountingMap<GatedMap<PairMap>> as CrackerMap>⟧.held m.value ≡ blank) }
 {
     let mine = purse.split()?;
     let Ok(counts) = Arc::try_clone(counts) else {
-        return Err(Refusal::NoMemory);
-    };
-    let Ok(gate) = flags.gate(is_other) else {
         return Err(Refusal::NoMemory);
     };
     let map = GatedMap::new(PairMap::blank(alloc, mine), gate);
@@ -137,13 +133,14 @@ fn play_gated<R: Threads + Sync>(
     let (budget, mut purse) = Budget::open(alloc, 1 << 20)?;
     let mut maps: Vec<Box<dyn CrackerMap>> = Vec::new(alloc);
     // the area takes the last first, and begins the key map in its first box, then that of b, then that of c
-    let c: Box<dyn CrackerMap> = gated(alloc, &mut purse, flags, true, &counts.c)?;
+    let c: Box<dyn CrackerMap> = gated(alloc, &mut purse, flags.gate(true)?, &counts.c)?;
     add(&mut maps, c)?;
-    let b: Box<dyn CrackerMap> = gated(alloc, &mut purse, flags, false, &counts.b)?;
+    let b: Box<dyn CrackerMap> = gated(alloc, &mut purse, flags.gate(false)?, &counts.b)?;
     add(&mut maps, b)?;
     let key: Box<dyn CrackerMap> = counting(alloc, &mut purse, 0, &counts.key)?;
     add(&mut maps, key)?;
-    let watch = Watch {
+    let stage = Stage {
+        alloc,
         budget: &budget,
         counts: &counts.key,
     };
@@ -151,7 +148,7 @@ fn play_gated<R: Threads + Sync>(
         shape: THREE_BOXES,
         script: Script::Moves(&FOUR_ROWS, AT_ONCE),
     };
-    play_script(rt, alloc, play, maps, watch, text)
+    play_script(rt, stage, play, maps, text)
 }
 
 #[test]
@@ -192,12 +189,11 @@ fn replayed(map: Box<dyn CrackerMap>, load: Entry) -> (Box<dyn CrackerMap>, Opti
 fn begun(
     alloc: Global,
     purse: &mut Purse,
-    flags: &Flags,
-    is_other: bool,
+    gate: Gate,
     tail: Tail,
     counts: &Arc<Counts>,
 ) -> Result<Box<CountingMap<GatedMap<PairMap>>>, Refusal> {
-    let mut map = gated(alloc, purse, flags, is_other, counts)?;
+    let mut map = gated(alloc, purse, gate, counts)?;
     match map.begin(0, tail, 64) {
         Ok(()) => Ok(map),
         Err(e) => Err(e),
@@ -216,26 +212,29 @@ fn push_map<M: CrackerMap>(
     text.push_str("; ")
 }
 
-/// Steps two maps that wait for one another in two threads, and tells what they show.
+/// Steps two maps that wait for one another in two threads, and tells what they show. All cells of their budget have to be there
+/// again in the end.
 fn meet<R: Threads + Sync>(
     rt: &R,
     alloc: Global,
-    budget: &Budget,
-    purse: &mut Purse,
     flags: &Flags,
     counts: &Three,
     text: &mut String,
 ) -> Result<(), Fail> {
+    let (budget, mut purse) = Budget::open(alloc, 128)?;
     let here = four_rows(alloc)?;
     let there = four_rows(alloc)?;
-    let one: Box<dyn CrackerMap> = begun(alloc, purse, flags, false, Tail::Key, &counts.key)?;
-    let two: Box<dyn CrackerMap> = begun(alloc, purse, flags, true, Tail::Cell(1), &counts.b)?;
+    let (mine, other) = (flags.gate(false)?, flags.gate(true)?);
+    let one: Box<dyn CrackerMap> = begun(alloc, &mut purse, mine, Tail::Key, &counts.key)?;
+    let two: Box<dyn CrackerMap> = begun(alloc, &mut purse, other, Tail::Cell(1), &counts.b)?;
     let thread = thread::spawn(rt, move || replayed(one, there))?;
     let (two, second) = replayed(two, here);
     let (one, first) = thread.join(rt);
     push_map(&one, first, text)?;
     push_map(&two, second, text)?;
-    Ok(write!(text, "{} in use", budget.used())?)
+    write!(text, "{} in use", budget.used())?;
+    drop((one, two));
+    Ok(tell_used(&budget, text)?)
 }
 
 #[test]
@@ -244,9 +243,7 @@ fn gated_boxes_meet_in_two_threads(rt: HostRuntime) -> Result<(), Fail> {
     let mut text = String::new(alloc);
     let flags = Flags::none(alloc)?;
     let counts = Three::none(alloc)?;
-    let (budget, mut purse) = Budget::open(alloc, 128)?;
-    meet(&rt, alloc, &budget, &mut purse, &flags, &counts, &mut text)?;
-    tell_used(&budget, &mut text)?;
+    meet(&rt, alloc, &flags, &counts, &mut text)?;
     assert_eq!(rt;
         text.as_str(),
         "1; 3:2 12:1 12:3 20:4; 1; 3:8 12:7 12:5 20:2; 128 in use"

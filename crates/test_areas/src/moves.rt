@@ -4,7 +4,7 @@ ghost use Rattle.std.specs.Prelude.{◌≡◌, []};
 
 use crate::acts::taken;
 use crate::may_ask;
-use crate::scenes::Watch;
+use crate::scenes::Stage;
 use std::alloc::{AllocError, Global};
 use std::test::Fail;
 use std::thread::Threads;
@@ -225,20 +225,20 @@ fn ranged<R: Threads + Sync, M: CrackerMap>(
 }
 
 /// Tells counts, which are 0 again.
-fn push_counts(text: &mut String, watch: Watch<'_>) -> Result<(), AllocError> {
+fn push_counts(text: &mut String, stage: Stage<'_>) -> Result<(), AllocError> {
     write!(
         text,
         "{} begins, {} steps, {} tails",
-        taken(&watch.counts.begins),
-        taken(&watch.counts.steps),
-        taken(&watch.counts.tails)
+        taken(&stage.counts.begins),
+        taken(&stage.counts.steps),
+        taken(&stage.counts.tails)
     )
 }
 
 /// Looks at an area.
 fn look<M: CrackerMap>(
     area: &Area<M>,
-    watch: Watch<'_>,
+    stage: Stage<'_>,
     step: Move<'_>,
     text: &mut String,
 ) -> Result<(), AllocError> {
@@ -248,8 +248,8 @@ fn look<M: CrackerMap>(
         Move::Shown(tail) => push_tail(text, area, tail),
         Move::Place(bound) => push_place(text, area.place(bound)),
         Move::Cursor(tail) => push_place(text, area.cursor(tail)),
-        Move::Counts => push_counts(text, watch),
-        Move::Used => write!(text, "{}", watch.budget.used()),
+        Move::Counts => push_counts(text, stage),
+        Move::Used => write!(text, "{}", stage.budget.used()),
         _ => Ok(()),
     }
 }
@@ -257,7 +257,7 @@ fn look<M: CrackerMap>(
 /// Clears maps, drops boxes or sets the number of the next use, or looks at an area.
 fn tend<M: CrackerMap>(
     area: &mut Area<M>,
-    watch: Watch<'_>,
+    stage: Stage<'_>,
     step: Move<'_>,
     text: &mut String,
 ) -> Result<(), AllocError>
@@ -275,16 +275,15 @@ fn tend<M: CrackerMap>(
             area.set_now(now);
             Ok(())
         }
-        _ => look(area, watch, step, text),
+        _ => look(area, stage, step, text),
     }
 }
 
 /// Makes a move, and tells what is seen.
 fn make<R: Threads + Sync, M: CrackerMap>(
     rt: &R,
-    alloc: Global,
+    stage: Stage<'_>,
     area: &mut Area<M>,
-    watch: Watch<'_>,
     step: Move<'_>,
     text: &mut String,
 ) -> Result<(), Fail>
@@ -292,9 +291,11 @@ fn make<R: Threads + Sync, M: CrackerMap>(
     ensures { area.new.inbox ≡ [] }
 {
     match step {
-        Move::Answer(_) | Move::Prepare(_) | Move::Scan(_) => asked(rt, alloc, area, step, text),
-        Move::Ranges(upto) => ranged(rt, alloc, area, upto, text),
-        _ => Ok(tend(area, watch, step, text)?),
+        Move::Answer(_) | Move::Prepare(_) | Move::Scan(_) => {
+            asked(rt, stage.alloc, area, step, text)
+        }
+        Move::Ranges(upto) => ranged(rt, stage.alloc, area, upto, text),
+        _ => Ok(tend(area, stage, step, text)?),
     }
 }
 
@@ -302,9 +303,8 @@ fn make<R: Threads + Sync, M: CrackerMap>(
 /// nothing.
 pub(crate) fn play<R: Threads + Sync, M: CrackerMap>(
     rt: &R,
-    alloc: Global,
+    stage: Stage<'_>,
     area: &mut Area<M>,
-    watch: Watch<'_>,
     moves: &[(Move<'_>, &str)],
     text: &mut String,
 ) -> Result<(), Fail>
@@ -314,7 +314,7 @@ pub(crate) fn play<R: Threads + Sync, M: CrackerMap>(
     for place in 0..moves.len() {
         let (step, expected) = moves[place];
         text.clear();
-        make(rt, alloc, area, watch, step, text)?;
+        make(rt, stage, area, step, text)?;
         if text.as_str() != expected {
             return Ok(write!(text, " at {place}")?);
         }

@@ -56,11 +56,12 @@ pub(crate) const FOUR_ROWS: [[i64; 8]; 4] = [
     [20, 2, 0, 0, 0, 0, 0, 0],
 ];
 
-/// What is looked at beside the area.
+/// What a script is played on: where its memory comes from, and what is looked at beside the area.
 #[derive(Clone, Copy)]
-pub(crate) struct Watch<'t> {
+pub(crate) struct Stage<'t> {
+    pub alloc: Global,
     pub budget: &'t Budget,
-    pub counts: &'t Counts,
+    pub counts: &'t Arc<Counts>,
 }
 
 /// What the maps of a case do besides: they refuse every n-th step, none where n is 0, and count their calls, or answer
@@ -103,41 +104,26 @@ pub(crate) struct Play<'t> {
     pub script: Script<'t>,
 }
 
-/// Plays a script on an area over these boxes.
-fn moved<R: Threads + Sync, M: CrackerMap>(
-    rt: &R,
-    alloc: Global,
-    shape: Shape,
-    cells: &[[i64; 8]],
-    maps: Vec<M>,
-    watch: Watch<'_>,
-    moves: &[(Move<'_>, &str)],
-    text: &mut String,
-) -> Result<(), Fail>
-    requires { All (λ m. M.held m ≡ blank) maps.items }
-{
-    let rows = numbered(alloc, cells)?;
-    let mut area = open(alloc, shape, rows.as_slice(), maps)?;
-    play(rt, alloc, &mut area, watch, moves, text)
-}
-
 /// Plays a script over boxes. Of the first step that does not show what is expected it tells what it shows; else nothing.
 pub(crate) fn play_script<R: Threads + Sync, M: CrackerMap>(
     rt: &R,
-    alloc: Global,
-    play: Play<'_>,
+    stage: Stage<'_>,
+    scene: Play<'_>,
     maps: Vec<M>,
-    watch: Watch<'_>,
     text: &mut String,
 ) -> Result<(), Fail>
     requires { All (λ m. M.held m ≡ blank) maps.items }
 {
-    let shape = play.shape;
-    match play.script {
-        Script::Moves(cells, moves) => { moved(rt, alloc, shape, cells, maps, watch, moves, text) }
+    let (alloc, shape) = (stage.alloc, scene.shape);
+    match scene.script {
+        Script::Moves(cells, moves) => {
+            let rows = numbered(alloc, cells)?;
+            let mut area = open(alloc, shape, rows.as_slice(), maps)?;
+            play(rt, stage, &mut area, moves, text)
+        }
         Script::Acts(acts) => {
             let mut maps = maps;
-            Ok(act_out(alloc, &mut maps, watch, acts, text)?)
+            Ok(act_out(stage, &mut maps, acts, text)?)
         }
     }
 }
@@ -193,50 +179,47 @@ fn cleared<M: CrackerMap>(alloc: Global, maps: Vec<M>) -> Result<Vec<M>, Refusal
     Ok(into)
 }
 
-/// So many boxes are made, and a script is played over them.
+/// The boxes of a case are made, and its script is played over them.
 fn play_boxed<R: Threads + Sync>(
     rt: &R,
-    alloc: Global,
+    stage: Stage<'_>,
     purse: &mut Purse,
-    counts: &Arc<Counts>,
-    many: usize,
-    trouble: Trouble,
-    watch: Watch<'_>,
-    play: Play<'_>,
+    case: &Case<'_>,
     text: &mut String,
 ) -> Result<(), Fail> {
-    let mut maps: Vec<Box<dyn CrackerMap>> = Vec::new(alloc);
-    for _turn in 0..many {
+    let trouble = case.trouble;
+    let mut maps: Vec<Box<dyn CrackerMap>> = Vec::new(stage.alloc);
+    for _turn in 0..boxes_of(case) {
         let one: Box<dyn CrackerMap> = if trouble.contends {
-            contended(alloc, purse, trouble.every)?
+            contended(stage.alloc, purse, trouble.every)?
         } else {
-            counting(alloc, purse, trouble.every, counts)?
+            counting(stage.alloc, purse, trouble.every, stage.counts)?
         };
         maps.push(one)?;
     }
-    let maps = cleared(alloc, maps)?;
-    play_script(rt, alloc, play, maps, watch, text)
+    let maps = cleared(stage.alloc, maps)?;
+    let scene = Play {
+        shape: case.shape,
+        script: case.script,
+    };
+    play_script(rt, stage, scene, maps, text)
 }
 
-/// Plays a script over so many boxes of a budget of its own, all of whose cells have to be there again in the end.
-pub(crate) fn play_with<R: Threads + Sync>(
+/// Plays a case over boxes of a budget of its own, all of whose cells have to be there again in the end.
+fn play_case<R: Threads + Sync>(
     rt: &R,
     alloc: Global,
-    capacity: u64,
-    many: usize,
-    trouble: Trouble,
-    play: Play<'_>,
+    case: &Case<'_>,
     text: &mut String,
 ) -> Result<(), Fail> {
     let counts = Arc::new(alloc, Counts::none())?;
-    let (budget, mut purse) = Budget::open(alloc, capacity)?;
-    let watch = Watch {
+    let (budget, mut purse) = Budget::open(alloc, case.capacity)?;
+    let stage = Stage {
+        alloc,
         budget: &budget,
         counts: &counts,
     };
-    play_boxed(
-        rt, alloc, &mut purse, &counts, many, trouble, watch, play, text,
-    )?;
+    play_boxed(rt, stage, &mut purse, case, text)?;
     Ok(tell_used(&budget, text)?)
 }
 
@@ -264,19 +247,7 @@ pub(crate) fn play_cases<R: Threads + Sync>(
     text: &mut String,
 ) -> Result<(), Fail> {
     for case in cases {
-        let play = Play {
-            shape: case.shape,
-            script: case.script,
-        };
-        play_with(
-            rt,
-            alloc,
-            case.capacity,
-            boxes_of(case),
-            case.trouble,
-            play,
-            text,
-        )?;
+        play_case(rt, alloc, case, text)?;
         if !text.is_empty() {
             return Ok(write!(text, " in {}", case.name)?);
         }
