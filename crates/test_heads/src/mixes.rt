@@ -3,7 +3,7 @@
 use crate::lines::{Lines, NAMES};
 use crate::scenes::{Boxes, Scene, Trouble, play};
 use crate::steps::merge;
-use crate::trials::{Shape, Trial, open, supply, tell};
+use crate::trials::{Shape, Stock, Trial, open, supply, tell};
 use std::alloc::{AllocError, Global};
 use std::test::Fail;
 use std::thread::Threads;
@@ -253,13 +253,20 @@ const OF_MANY_THAT_GO: &[Group<'static>] = &[
     },
 ];
 
-/// A mix that is made: its recipe, its lines, up to how many cuts there are, and how many areas were scanned.
+/// A mix that is made: where its memory comes from, its recipe, its lines, up to how many cuts there are, and how many areas were
+/// scanned.
 #[derive(Drop)]
 pub(crate) struct Mix {
+    alloc: Global,
     recipe: Recipe,
     lines: Lines,
     cuts: u32,
     scans: usize,
+}
+
+/// The attribute of a head.
+fn head_of<M: CrackerMap>(trial: &Trial<M>) -> usize {
+    usize::from(trial.head.head().attribute())
 }
 
 /// The key of one of the rows that there are, or rarely another.
@@ -276,7 +283,6 @@ fn some_key<M: CrackerMap>(trial: &Trial<M>, lines: &mut Lines) -> u64 {
 fn push_call<M: CrackerMap>(
     trial: &Trial<M>,
     mix: &mut Mix,
-    head: usize,
     line: &mut String,
 ) -> Result<(), AllocError> {
     let kind = mix.lines.roll(10);
@@ -287,25 +293,20 @@ fn push_call<M: CrackerMap>(
     } else if kind - mix.recipe.come - mix.recipe.go < mix.recipe.many_go {
         mix.lines.push_deletion(line)
     } else {
-        mix.lines.push_query(head, line)
+        mix.lines.push_query(head_of(trial), line)
     }
 }
 
 /// Rarely clears maps, merges, or lets boxes come and go.
-fn tend<M: CrackerMap>(
-    alloc: Global,
-    trial: &mut Trial<M>,
-    mix: &mut Mix,
-    head: usize,
-) -> Result<(), Fail> {
+fn tend<M: CrackerMap>(trial: &mut Trial<M>, mix: &mut Mix) -> Result<(), Fail> {
     match mix.lines.roll(24) {
         0 => {
             let _cells = trial.head.evict(u64::from(mix.lines.roll(400)));
         }
         1 => {
-            let mut line = String::new(alloc);
-            mix.lines.push_query(head, &mut line)?;
-            merge(alloc, trial, line.as_str())?;
+            let mut line = String::new(trial.alloc);
+            mix.lines.push_query(head_of(trial), &mut line)?;
+            merge(trial, line.as_str())?;
         }
         2 if mix.recipe.boxes_go => {
             let _gone = trial.head.shed(mix.lines.roll(3) as usize);
@@ -319,34 +320,30 @@ fn tend<M: CrackerMap>(
 /// Makes the call of a line, and rarely does something besides. Tells what is wrong.
 fn call<R: Threads + Sync, M: CrackerMap>(
     rt: &R,
-    alloc: Global,
     trial: &mut Trial<M>,
     mix: &mut Mix,
-    head: usize,
     line: &str,
     text: &mut String,
 ) -> Result<(), Fail> {
-    if !tell(rt, alloc, trial, line, text)? {
+    if !tell(rt, trial, line, text)? {
         return Ok(write!(text, " to {line}")?);
     }
     text.clear();
-    tend(alloc, trial, mix, head)
+    tend(trial, mix)
 }
 
 /// Makes the calls of a mix, up to the first with which something is wrong.
 fn call_all<R: Threads + Sync, M: CrackerMap>(
     rt: &R,
-    alloc: Global,
     trial: &mut Trial<M>,
     mix: &mut Mix,
-    head: usize,
     text: &mut String,
 ) -> Result<(), Fail> {
-    let mut line = String::new(alloc);
+    let mut line = String::new(trial.alloc);
     for number in 0..mix.recipe.calls {
         line.clear();
-        push_call(trial, mix, head, &mut line)?;
-        call(rt, alloc, trial, mix, head, line.as_str(), text)?;
+        push_call(trial, mix, &mut line)?;
+        call(rt, trial, mix, line.as_str(), text)?;
         if !text.is_empty() {
             return Ok(write!(text, " at call {number}")?);
         }
@@ -355,49 +352,33 @@ fn call_all<R: Threads + Sync, M: CrackerMap>(
 }
 
 /// The cells of the rows that there are at first.
-fn cells_for(alloc: Global, mix: &mut Mix) -> Result<Vec<[i64; 8]>, AllocError> {
-    let mut cells = Vec::new(alloc);
+fn cells_for(mix: &mut Mix) -> Result<Vec<[i64; 8]>, AllocError> {
+    let mut cells = Vec::new(mix.alloc);
     for _turn in 0..mix.lines.roll(mix.recipe.rows) {
         cells.push(mix.lines.cells())?;
     }
     Ok(cells)
 }
 
-/// Makes the calls of a mix on a head of this shape over these boxes, and tells what is wrong.
-fn mixed_on<R: Threads + Sync, M: CrackerMap>(
-    rt: &R,
-    alloc: Global,
-    shape: Shape<'_>,
-    maps: Vec<M>,
-    first: usize,
-    mix: &mut Mix,
-    text: &mut String,
-) -> Result<(), Fail> {
-    let mut trial = open(alloc, shape, maps, first)?;
-    let head = usize::from(shape.attribute);
-    let made = call_all(rt, alloc, &mut trial, mix, head, text);
-    mix.scans = trial.scans;
-    made
-}
-
-/// Makes a mix over these boxes, and tells what is wrong.
+/// Makes a mix over this stock, and tells what is wrong.
 pub(crate) fn mixed<R: Threads + Sync, M: CrackerMap>(
     rt: &R,
-    alloc: Global,
-    maps: Vec<M>,
-    first: usize,
+    stock: Stock<M>,
     mix: &mut Mix,
     text: &mut String,
 ) -> Result<(), Fail> {
-    let cells = cells_for(alloc, mix)?;
-    let cuts = mix.lines.cuts(alloc, mix.cuts)?;
+    let cells = cells_for(mix)?;
+    let cuts = mix.lines.cuts(mix.alloc, mix.cuts)?;
     let shape = Shape {
         header: &NAMES,
         attribute: u8::try_from(mix.lines.roll(5)).unwrap_or(0),
         cuts: cuts.as_slice(),
         cells: cells.as_slice(),
     };
-    mixed_on(rt, alloc, shape, maps, first, mix, text)
+    let mut trial = open(stock, shape)?;
+    let made = call_all(rt, &mut trial, mix, text);
+    mix.scans = trial.scans;
+    made
 }
 
 /// Whether so many areas may have been scanned in a mix.
@@ -415,11 +396,11 @@ fn may_scan(mix: &Mix, boxes: usize, capacity: u64) -> bool {
 /// Makes a mix over boxes of its own, and tells what is wrong.
 fn mix_over<R: Threads + Sync>(
     rt: &R,
-    alloc: Global,
     mix: &mut Mix,
     boxes: Boxes,
     text: &mut String,
 ) -> Result<(), Fail> {
+    let alloc = mix.alloc;
     let mut scene = Scene::Mix(&mut *mix);
     play(rt, alloc, boxes, &mut scene, text)?;
     if !may_scan(mix, boxes.first, boxes.capacity) {
@@ -434,7 +415,6 @@ fn mix_over<R: Threads + Sync>(
 /// Makes the mixes of a group over boxes of one kind, up to the first with which something is wrong.
 fn mixes_over<R: Threads + Sync>(
     rt: &R,
-    alloc: Global,
     mix: &mut Mix,
     group: Group<'_>,
     trouble: Trouble,
@@ -449,7 +429,7 @@ fn mixes_over<R: Threads + Sync>(
                     capacity: *capacity,
                     trouble,
                 };
-                mix_over(rt, alloc, mix, boxes, text)?;
+                mix_over(rt, mix, boxes, text)?;
             }
         }
     }
@@ -465,13 +445,14 @@ fn mix_all<R: Threads + Sync>(
 ) -> Result<(), Fail> {
     for group in groups {
         let mut mix = Mix {
+            alloc,
             recipe: group.recipe,
             lines: Lines::new(group.seed),
             cuts: group.cuts,
             scans: 0,
         };
         for trouble in group.troubles {
-            mixes_over(rt, alloc, &mut mix, *group, *trouble, text)?;
+            mixes_over(rt, &mut mix, *group, *trouble, text)?;
         }
     }
     Ok(())

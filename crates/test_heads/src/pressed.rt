@@ -3,7 +3,7 @@
 use crate::cases::rising;
 use crate::noted::{NotedMap, Notes};
 use crate::steps::called;
-use crate::trials::{Shape, Trial, open};
+use crate::trials::{Shape, Stock, Trial, open};
 use std::alloc::Global;
 use std::sync::Arc;
 use std::sync::atomic::{AtomicBool, AtomicU64, Ordering};
@@ -98,18 +98,17 @@ fn taken(notes: &Notes) -> (u64, u64, u64) {
 /// the area is scanned, and its map is not begun again. Tells whether it did, if all was so.
 fn trial_grown<R: Threads + Sync>(
     rt: &R,
-    alloc: Global,
     trial: &mut Trial<NotedMap<PairMap>>,
     notes: &Notes,
     text: &mut String,
 ) -> Result<Option<bool>, Fail> {
-    called(rt, alloc, trial, "count", text)?;
+    called(rt, trial, "count", text)?;
     let is_begun = text.as_str() == "60\n";
     for _turn in 0..5 {
-        called(rt, alloc, trial, "insert 1", text)?;
+        called(rt, trial, "insert 1", text)?;
     }
     let _before = taken(notes);
-    called(rt, alloc, trial, "count", text)?;
+    called(rt, trial, "count", text)?;
     let told = taken(notes);
     Ok(match told {
         _ if !is_begun => Some(false),
@@ -119,12 +118,11 @@ fn trial_grown<R: Threads + Sync>(
     })
 }
 
-/// The same of a head over these cells with this map.
+/// The same of a head of these cells over this stock.
 fn head_grown<R: Threads + Sync>(
     rt: &R,
-    alloc: Global,
+    stock: Stock<NotedMap<PairMap>>,
     cells: &[[i64; 8]],
-    map: NotedMap<PairMap>,
     notes: &Notes,
     text: &mut String,
 ) -> Result<Option<bool>, Fail> {
@@ -134,10 +132,26 @@ fn head_grown<R: Threads + Sync>(
         cuts: &[],
         cells,
     };
-    let mut stock = Vec::new(alloc);
-    stock.push(map)?;
-    let mut trial = open(alloc, shape, stock, 1)?;
-    trial_grown(rt, alloc, &mut trial, notes, text)
+    let mut trial = open(stock, shape)?;
+    trial_grown(rt, &mut trial, notes, text)
+}
+
+/// A stock of one map that notes its calls, over a purse of its own.
+fn noted(
+    alloc: Global,
+    purse: &mut Purse,
+    notes: &Arc<Notes>,
+) -> Result<Stock<NotedMap<PairMap>>, Fail> {
+    let mut maps = Vec::new(alloc);
+    maps.push(NotedMap {
+        inner: PairMap::blank(alloc, purse.split()?),
+        notes: Arc::try_clone(notes)?,
+    })?;
+    Ok(Stock {
+        alloc,
+        maps,
+        first: 1,
+    })
 }
 
 /// Lets heads grow until the budget was contended often enough, and tells whether all was as it should be.
@@ -151,11 +165,8 @@ fn heads_grown<R: Threads + Sync>(
     let notes = Arc::new(alloc, Notes::none())?;
     let mut contended = 0u64;
     for _turn in 0..MOST_HEADS {
-        let map = NotedMap {
-            inner: PairMap::blank(alloc, purse.split()?),
-            notes: Arc::try_clone(&notes)?,
-        };
-        match head_grown(rt, alloc, cells.as_slice(), map, &notes, text)? {
+        let stock = noted(alloc, purse, &notes)?;
+        match head_grown(rt, stock, cells.as_slice(), &notes, text)? {
             Some(is_contended) => contended = contended.wrapping_add(u64::from(is_contended)),
             None => return Ok(false),
         }

@@ -1,7 +1,7 @@
 //! Calls that find no memory and are made again: run it with each allocation refused in turn.
 
 use crate::scenes::TWO_AREAS;
-use crate::trials::{Trial, open, replies};
+use crate::trials::{Stock, Trial, open, replies};
 use std::alloc::Global;
 use std::thread::Threads;
 use sw_budget::Budget;
@@ -51,15 +51,14 @@ fn number_of(reply: &Reply) -> u64 {
 /// Whether a call is answered so, and each refusal before left the rows as they were.
 fn is_answered<R: Threads + Sync, M: CrackerMap>(
     rt: &R,
-    alloc: Global,
     trial: &mut Trial<M>,
     line: &str,
     number: u64,
 ) -> bool {
     for _turn in 0..TURNS {
         let before = keys(trial);
-        if let Ok(Some(call)) = parse_known(alloc, &trial.schema, 1, line) {
-            if let Ok((reply, plain)) = replies(rt, alloc, trial, &call) {
+        if let Ok(Some(call)) = parse_known(trial.alloc, &trial.schema, 1, line) {
+            if let Ok((reply, plain)) = replies(rt, trial, &call) {
                 return number_of(&reply) == number && number_of(&plain) == number;
             }
         }
@@ -71,13 +70,9 @@ fn is_answered<R: Threads + Sync, M: CrackerMap>(
 }
 
 /// The first call that is not answered as it should be; else nothing.
-fn first_fault<R: Threads + Sync, M: CrackerMap>(
-    rt: &R,
-    alloc: Global,
-    trial: &mut Trial<M>,
-) -> &'static str {
+fn first_fault<R: Threads + Sync, M: CrackerMap>(rt: &R, trial: &mut Trial<M>) -> &'static str {
     for (line, number) in CALLS {
-        if !is_answered(rt, alloc, trial, *line, *number) {
+        if !is_answered(rt, trial, *line, *number) {
             return *line;
         }
         // some removals find a key map, and some do not
@@ -100,8 +95,13 @@ fn tried<R: Threads + Sync>(rt: &R, alloc: Global) -> Option<&'static str> {
             return None;
         }
     }
-    match open(alloc, TWO_AREAS, maps, 2) {
-        Ok(mut trial) => Some(first_fault(rt, alloc, &mut trial)),
+    let stock = Stock {
+        alloc,
+        maps,
+        first: 2,
+    };
+    match open(stock, TWO_AREAS) {
+        Ok(mut trial) => Some(first_fault(rt, &mut trial)),
         Err(_) => None,
     }
 }

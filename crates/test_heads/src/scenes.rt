@@ -2,7 +2,7 @@
 
 use crate::mixes::{Mix, mixed};
 use crate::steps::{Step, take_all};
-use crate::trials::{Shape, open};
+use crate::trials::{Shape, Stock, open};
 use crate::worked::{Worked, make_calls};
 use std::alloc::Global;
 use std::sync::Arc;
@@ -63,6 +63,13 @@ pub(crate) struct Boxes {
     pub trouble: Trouble,
 }
 
+impl Boxes {
+    /// How many there are.
+    fn len(self) -> usize {
+        self.first.wrapping_add(self.later)
+    }
+}
+
 /// A case: its name, what the head is opened with, its boxes, and the steps.
 #[derive(Clone, Copy)]
 pub(crate) struct Case<'t> {
@@ -83,23 +90,21 @@ pub(crate) enum Scene<'t> {
     Mix(&'t mut Mix),
 }
 
-/// Plays a scene over boxes, and tells what is wrong.
+/// Plays a scene over a stock, and tells what is wrong.
 fn play_over<R: Threads + Sync, M: CrackerMap>(
     rt: &R,
-    alloc: Global,
-    maps: Vec<M>,
-    first: usize,
+    stock: Stock<M>,
     watch: Watch<'_>,
     scene: &mut Scene<'_>,
     text: &mut String,
 ) -> Result<(), Fail> {
     match scene {
         Scene::Case(case) => {
-            let mut trial = open(alloc, case.shape, maps, first)?;
-            take_all(rt, alloc, &mut trial, watch, case.steps, text)
+            let mut trial = open(stock, case.shape)?;
+            take_all(rt, &mut trial, watch, case.steps, text)
         }
-        Scene::Worked(lines) => make_calls(rt, alloc, maps, first, *lines, text),
-        Scene::Mix(mix) => mixed(rt, alloc, maps, first, mix, text),
+        Scene::Worked(lines) => make_calls(rt, stock, *lines, text),
+        Scene::Mix(mix) => mixed(rt, stock, mix, text),
     }
 }
 
@@ -107,33 +112,35 @@ fn play_over<R: Threads + Sync, M: CrackerMap>(
 fn counting(
     alloc: Global,
     purse: &mut Purse,
-    many: usize,
+    boxes: Boxes,
     every: u64,
     counts: &Arc<Counts>,
-) -> Result<Vec<CountingMap<RefusingMap<PairMap>>>, Fail> {
+) -> Result<Stock<CountingMap<RefusingMap<PairMap>>>, Fail> {
     let mut maps = Vec::new(alloc);
-    for _turn in 0..many {
+    for _turn in 0..boxes.len() {
         let mine = purse.split()?;
         let counts = Arc::try_clone(counts)?;
         let map = RefusingMap::new(PairMap::blank(alloc, mine), every);
         maps.push(CountingMap::new(map, counts))?;
     }
-    Ok(maps)
+    let first = boxes.first;
+    Ok(Stock { alloc, maps, first })
 }
 
 /// Maps that refuse every n-th step or growth, over purses of one budget.
 fn growing(
     alloc: Global,
     purse: &mut Purse,
-    many: usize,
+    boxes: Boxes,
     every: u64,
-) -> Result<Vec<RefusingMap<PairMap>>, Fail> {
+) -> Result<Stock<RefusingMap<PairMap>>, Fail> {
     let mut maps = Vec::new(alloc);
-    for _turn in 0..many {
+    for _turn in 0..boxes.len() {
         let mine = purse.split()?;
         maps.push(RefusingMap::new(PairMap::blank(alloc, mine), every))?;
     }
-    Ok(maps)
+    let first = boxes.first;
+    Ok(Stock { alloc, maps, first })
 }
 
 /// Maps that find the budget contended at every second growth, and at every second begin where these contend, over purses of
@@ -141,11 +148,11 @@ fn growing(
 fn contended(
     alloc: Global,
     purse: &mut Purse,
-    many: usize,
+    boxes: Boxes,
     begins_contend: bool,
-) -> Result<Vec<ContendedMap<PairMap>>, Fail> {
+) -> Result<Stock<ContendedMap<PairMap>>, Fail> {
     let mut maps = Vec::new(alloc);
-    for _turn in 0..many {
+    for _turn in 0..boxes.len() {
         let map = PairMap::blank(alloc, purse.split()?);
         maps.push(if begins_contend {
             ContendedMap::new(map)
@@ -153,36 +160,8 @@ fn contended(
             ContendedMap::of_growths(map)
         })?;
     }
-    Ok(maps)
-}
-
-/// Makes boxes of a budget, and plays a scene over them.
-fn play_boxed<R: Threads + Sync>(
-    rt: &R,
-    alloc: Global,
-    purse: &mut Purse,
-    counts: &Arc<Counts>,
-    boxes: Boxes,
-    watch: Watch<'_>,
-    scene: &mut Scene<'_>,
-    text: &mut String,
-) -> Result<(), Fail> {
-    let many = boxes.first.wrapping_add(boxes.later);
-    match boxes.trouble {
-        Trouble::Contends | Trouble::GrowthContends => {
-            let begins_contend = matches!(boxes.trouble, Trouble::Contends);
-            let maps = contended(alloc, purse, many, begins_contend)?;
-            play_over(rt, alloc, maps, boxes.first, watch, scene, text)
-        }
-        Trouble::Grows(every) => {
-            let maps = growing(alloc, purse, many, every)?;
-            play_over(rt, alloc, maps, boxes.first, watch, scene, text)
-        }
-        Trouble::Every(every) => {
-            let maps = counting(alloc, purse, many, every, counts)?;
-            play_over(rt, alloc, maps, boxes.first, watch, scene, text)
-        }
-    }
+    let first = boxes.first;
+    Ok(Stock { alloc, maps, first })
 }
 
 /// Plays a scene over boxes of a budget of its own, all of whose cells have to be there again in the end, and tells
@@ -200,7 +179,21 @@ pub(crate) fn play<R: Threads + Sync>(
         budget: &budget,
         counts: &counts,
     };
-    play_boxed(rt, alloc, &mut purse, &counts, boxes, watch, scene, text)?;
+    match boxes.trouble {
+        Trouble::Contends | Trouble::GrowthContends => {
+            let begins_contend = matches!(boxes.trouble, Trouble::Contends);
+            let stock = contended(alloc, &mut purse, boxes, begins_contend)?;
+            play_over(rt, stock, watch, scene, text)?;
+        }
+        Trouble::Grows(every) => {
+            let stock = growing(alloc, &mut purse, boxes, every)?;
+            play_over(rt, stock, watch, scene, text)?;
+        }
+        Trouble::Every(every) => {
+            let stock = counting(alloc, &mut purse, boxes, every, &counts)?;
+            play_over(rt, stock, watch, scene, text)?;
+        }
+    }
     if budget.used() > 0 {
         text.push_str("; cells are in use after the drop")?;
     }

@@ -2,7 +2,7 @@
 
 use crate::scenes::Watch;
 use crate::trials::{Trial, supply, tell, tell_at_rest};
-use std::alloc::{AllocError, Global};
+use std::alloc::AllocError;
 use std::sync::atomic::{AtomicU64, Ordering};
 use std::test::Fail;
 use std::thread::Threads;
@@ -130,14 +130,13 @@ fn tend<M: CrackerMap>(
 /// Makes a call, and tells how many areas were scanned for it.
 pub(crate) fn called<R: Threads + Sync, M: CrackerMap>(
     rt: &R,
-    alloc: Global,
     trial: &mut Trial<M>,
     line: &str,
     text: &mut String,
 ) -> Result<(), Fail> {
     text.clear();
     let before = trial.scans;
-    let _same = tell(rt, alloc, trial, line, text)?;
+    let _same = tell(rt, trial, line, text)?;
     let scans = trial.scans.wrapping_sub(before);
     if scans > 0 {
         write!(text, "{scans} scanned")?;
@@ -148,14 +147,13 @@ pub(crate) fn called<R: Threads + Sync, M: CrackerMap>(
 /// Makes a call so often.
 fn called_often<R: Threads + Sync, M: CrackerMap>(
     rt: &R,
-    alloc: Global,
     trial: &mut Trial<M>,
     many: u32,
     line: &str,
     text: &mut String,
 ) -> Result<(), Fail> {
     for _turn in 0..many {
-        called(rt, alloc, trial, line, text)?;
+        called(rt, trial, line, text)?;
     }
     Ok(())
 }
@@ -163,14 +161,13 @@ fn called_often<R: Threads + Sync, M: CrackerMap>(
 /// Deletes the rows of the keys up to a number.
 fn deleted_up_to<R: Threads + Sync, M: CrackerMap>(
     rt: &R,
-    alloc: Global,
     trial: &mut Trial<M>,
     last: u64,
     text: &mut String,
 ) -> Result<(), Fail> {
     for before in 0..last {
-        let line = format!(in alloc; "delete {}", before.wrapping_add(1))?;
-        called(rt, alloc, trial, line.as_str(), text)?;
+        let line = format!(in trial.alloc; "delete {}", before.wrapping_add(1))?;
+        called(rt, trial, line.as_str(), text)?;
     }
     Ok(())
 }
@@ -187,12 +184,8 @@ fn merge_for<M: CrackerMap>(trial: &mut Trial<M>, call: &Call) -> Result<(), Ref
 }
 
 /// Merges what waits in the areas that a query touches: no map is made for it.
-pub(crate) fn merge<M: CrackerMap>(
-    alloc: Global,
-    trial: &mut Trial<M>,
-    line: &str,
-) -> Result<(), Fail> {
-    match parse_known(alloc, &trial.schema, 1, line)? {
+pub(crate) fn merge<M: CrackerMap>(trial: &mut Trial<M>, line: &str) -> Result<(), Fail> {
+    match parse_known(trial.alloc, &trial.schema, 1, line)? {
         Some(call) => Ok(merge_for(trial, &call)?),
         None => Ok(()),
     }
@@ -201,18 +194,17 @@ pub(crate) fn merge<M: CrackerMap>(
 /// Takes a step, and tells what is seen.
 fn take<R: Threads + Sync, M: CrackerMap>(
     rt: &R,
-    alloc: Global,
     trial: &mut Trial<M>,
     watch: Watch<'_>,
     step: Step<'_>,
     text: &mut String,
 ) -> Result<(), Fail> {
     match step {
-        Step::Call(line) => called(rt, alloc, trial, line, text),
-        Step::Calls(many, line) => called_often(rt, alloc, trial, many, line, text),
-        Step::DeletesUpTo(last) => deleted_up_to(rt, alloc, trial, last, text),
-        Step::Merge(line) => merge(alloc, trial, line),
-        Step::AtRest(line) => tell_at_rest(alloc, trial, line, text),
+        Step::Call(line) => called(rt, trial, line, text),
+        Step::Calls(many, line) => called_often(rt, trial, many, line, text),
+        Step::DeletesUpTo(last) => deleted_up_to(rt, trial, last, text),
+        Step::Merge(line) => merge(trial, line),
+        Step::AtRest(line) => tell_at_rest(trial, line, text),
         Step::Supply => Ok(supply(trial)?),
         _ => Ok(tend(trial, watch, step, text)?),
     }
@@ -222,7 +214,6 @@ fn take<R: Threads + Sync, M: CrackerMap>(
 /// 0; else nothing.
 pub(crate) fn take_all<R: Threads + Sync, M: CrackerMap>(
     rt: &R,
-    alloc: Global,
     trial: &mut Trial<M>,
     watch: Watch<'_>,
     steps: &[(Step<'_>, &str)],
@@ -231,7 +222,7 @@ pub(crate) fn take_all<R: Threads + Sync, M: CrackerMap>(
     for place in 0..steps.len() {
         let (step, expected) = steps[place];
         text.clear();
-        take(rt, alloc, trial, watch, step, text)?;
+        take(rt, trial, watch, step, text)?;
         if text.as_str() != expected {
             return Ok(write!(text, " at {place}")?);
         }

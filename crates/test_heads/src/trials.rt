@@ -20,47 +20,54 @@ pub(crate) struct Shape<'t> {
     pub cells: &'t [[i64; 8]],
 }
 
-/// A head, the plain list of its rows, the key that comes next, boxes that may come to the head, and how many areas
-/// were scanned.
+/// What a head is opened over: where memory comes from, boxes, and how many of them it has at first.
+#[derive(Drop)]
+pub(crate) struct Stock<M: CrackerMap> {
+    pub alloc: Global,
+    pub maps: Vec<M>,
+    pub first: usize,
+}
+
+/// A head, where its memory comes from, the plain list of its rows, the key that comes next, boxes that may come to the head, and
+/// how many areas were scanned.
 pub(crate) struct Trial<M: CrackerMap> {
+    pub alloc: Global,
     pub schema: Schema,
     pub head: GrowingHead<M>,
     pub rows: Vec<Row>,
     pub next: u64,
-    pub stock: Vec<M>,
+    pub maps: Vec<M>,
     pub scans: usize,
 }
 
 impl<M: CrackerMap> Drop for Trial<M> {
     fn drop(self) {
         let Self {
+            alloc: _,
             schema: _schema,
             head: _head,
             rows: _rows,
             next: _,
-            stock: _stock,
+            maps: _maps,
             scans: _,
         } = self;
     }
 }
 
-/// A head of a shape, with so many of these boxes.
-pub(crate) fn open<M: CrackerMap>(
-    alloc: Global,
-    shape: Shape<'_>,
-    stock: Vec<M>,
-    many: usize,
-) -> Result<Trial<M>, Refusal> {
+/// A head of a shape over a stock.
+pub(crate) fn open<M: CrackerMap>(stock: Stock<M>, shape: Shape<'_>) -> Result<Trial<M>, Refusal> {
+    let Stock { alloc, maps, first } = stock;
     let mut trial = Trial {
+        alloc,
         schema: Schema::of(alloc, TextKey::fixed(), shape.header)?,
         head: GrowingHead::open(alloc, shape.attribute, shape.cuts, shape.cells)?,
         rows: numbered(alloc, shape.cells)?,
         next: 1,
-        stock,
+        maps,
         scans: 0,
     };
     trial.next = trial.rows.len() as u64 + 1;
-    for _turn in 0..many {
+    for _turn in 0..first {
         supply(&mut trial)?;
     }
     Ok(trial)
@@ -68,7 +75,7 @@ pub(crate) fn open<M: CrackerMap>(
 
 /// Gives one of the boxes to the head, if there is one.
 pub(crate) fn supply<M: CrackerMap>(trial: &mut Trial<M>) -> Result<(), Refusal> {
-    match trial.stock.pop() {
+    match trial.maps.pop() {
         Some(map) => trial.head.supply(map),
         None => Ok(()),
     }
@@ -106,12 +113,8 @@ fn meets(row: &Row, conds: &[Cond]) -> bool {
 }
 
 /// The keys of the rows of the plain list that meet conditions.
-fn met<M: CrackerMap>(
-    alloc: Global,
-    trial: &Trial<M>,
-    conds: &[Cond],
-) -> Result<Vec<u64>, Refusal> {
-    let mut keys = Vec::new(alloc);
+fn met<M: CrackerMap>(trial: &Trial<M>, conds: &[Cond]) -> Result<Vec<u64>, Refusal> {
+    let mut keys = Vec::new(trial.alloc);
     for row in &trial.rows {
         if meets(row, conds) && keys.push(row.key).is_err() {
             return Err(Refusal::NoMemory);
@@ -132,11 +135,10 @@ fn remove_each<M: CrackerMap>(trial: &mut Trial<M>, keys: &[u64]) -> Result<u64,
 
 /// Removes all rows that meet conditions: the replies of the head and of the plain list.
 fn remove_where<M: CrackerMap>(
-    alloc: Global,
     trial: &mut Trial<M>,
     conds: &[Cond],
 ) -> Result<(Reply, Reply), Refusal> {
-    let keys = met(alloc, trial, conds)?;
+    let keys = met(trial, conds)?;
     let had = remove_each(trial, keys.as_slice())?;
     Ok((
         Reply::RemovedMany(had),
@@ -162,13 +164,12 @@ fn delete<M: CrackerMap>(trial: &mut Trial<M>, key: u64) -> Result<(Reply, Reply
 /// Asks a query: the replies of the head and of the plain list.
 fn select<R: Threads + Sync, M: CrackerMap>(
     rt: &R,
-    alloc: Global,
     trial: &mut Trial<M>,
     query: &Query,
 ) -> Result<(Reply, Reply), Refusal> {
     let (reply, scans) = trial.head.ask(rt, query)?;
     trial.scans = trial.scans.wrapping_add(scans);
-    match answer(alloc, trial.rows.as_slice(), query) {
+    match answer(trial.alloc, trial.rows.as_slice(), query) {
         Ok(plain) => Ok((reply, plain)),
         Err(e) => Err(e),
     }
@@ -177,15 +178,14 @@ fn select<R: Threads + Sync, M: CrackerMap>(
 /// What the head replies to a call, and what the plain list does.
 pub(crate) fn replies<R: Threads + Sync, M: CrackerMap>(
     rt: &R,
-    alloc: Global,
     trial: &mut Trial<M>,
     call: &Call,
 ) -> Result<(Reply, Reply), Refusal> {
     match call {
-        Call::Select(query) => select(rt, alloc, trial, query),
+        Call::Select(query) => select(rt, trial, query),
         Call::Insert(cells) => insert(trial, *cells),
         Call::Delete(key) => delete(trial, *key),
-        Call::DeleteWhere(conds) => remove_where(alloc, trial, conds.as_slice()),
+        Call::DeleteWhere(conds) => remove_where(trial, conds.as_slice()),
     }
 }
 
@@ -220,26 +220,24 @@ fn push_both(
 /// Makes a call, and tells the replies so.
 fn told<R: Threads + Sync, M: CrackerMap>(
     rt: &R,
-    alloc: Global,
     trial: &mut Trial<M>,
     call: &Call,
     text: &mut String,
 ) -> Result<bool, Fail> {
-    let both = replies(rt, alloc, trial, call)?;
-    push_both(alloc, &trial.schema, call, &both, text)
+    let both = replies(rt, trial, call)?;
+    push_both(trial.alloc, &trial.schema, call, &both, text)
 }
 
 /// Makes the call of a line, and answers whether the head replies as the plain list does. Tells what the head replies,
 /// and after it what the plain list does where that is another reply.
 pub(crate) fn tell<R: Threads + Sync, M: CrackerMap>(
     rt: &R,
-    alloc: Global,
     trial: &mut Trial<M>,
     line: &str,
     text: &mut String,
 ) -> Result<bool, Fail> {
-    match parse_known(alloc, &trial.schema, 1, line)? {
-        Some(call) => told(rt, alloc, trial, &call, text),
+    match parse_known(trial.alloc, &trial.schema, 1, line)? {
+        Some(call) => told(rt, trial, &call, text),
         None => Ok(false),
     }
 }
@@ -259,7 +257,6 @@ fn push_reply(
 
 /// Asks a query where the head is at rest for it, and tells the reply, or that it is not.
 fn told_at_rest<M: CrackerMap>(
-    alloc: Global,
     trial: &Trial<M>,
     call: &Call,
     text: &mut String,
@@ -268,20 +265,19 @@ fn told_at_rest<M: CrackerMap>(
         return Ok(());
     };
     match trial.head.ask_at_rest(query)? {
-        Some(reply) => push_reply(alloc, &trial.schema, call, &reply, text),
+        Some(reply) => push_reply(trial.alloc, &trial.schema, call, &reply, text),
         None => Ok(text.push_str("not at rest")?),
     }
 }
 
 /// Asks the query of a line where the head is at rest for it, and tells the reply, or that it is not.
 pub(crate) fn tell_at_rest<M: CrackerMap>(
-    alloc: Global,
     trial: &Trial<M>,
     line: &str,
     text: &mut String,
 ) -> Result<(), Fail> {
-    match parse_known(alloc, &trial.schema, 1, line)? {
-        Some(call) => told_at_rest(alloc, trial, &call, text),
+    match parse_known(trial.alloc, &trial.schema, 1, line)? {
+        Some(call) => told_at_rest(trial, &call, text),
         None => Ok(()),
     }
 }

@@ -1,7 +1,7 @@
 //! Worked examples: calls whose replies are known, over heads with a cut and with none, with maps and without.
 
 use crate::scenes::{Boxes, FOUR_ROWS, Scene, Trouble, play};
-use crate::trials::{Shape, Trial, open, tell};
+use crate::trials::{Shape, Stock, Trial, open, tell};
 use std::alloc::Global;
 use std::test::Fail;
 use std::thread::Threads;
@@ -19,7 +19,6 @@ pub(crate) struct Worked<'t> {
 /// cleared.
 fn lines_made<R: Threads + Sync, M: CrackerMap>(
     rt: &R,
-    alloc: Global,
     trial: &mut Trial<M>,
     calls: Worked<'_>,
     text: &mut String,
@@ -30,7 +29,7 @@ fn lines_made<R: Threads + Sync, M: CrackerMap>(
         if line.is_empty() {
             let _cells = trial.head.evict(1);
         }
-        let _same = tell(rt, alloc, trial, line, text)?;
+        let _same = tell(rt, trial, line, text)?;
         if text.as_str() != expected {
             return Ok(write!(text, " to {line}")?);
         }
@@ -44,17 +43,15 @@ fn lines_made<R: Threads + Sync, M: CrackerMap>(
     }
 }
 
-/// Makes the calls over these boxes, and tells what is wrong.
+/// Makes the calls over this stock, and tells what is wrong.
 pub(crate) fn make_calls<R: Threads + Sync, M: CrackerMap>(
     rt: &R,
-    alloc: Global,
-    maps: Vec<M>,
-    first: usize,
+    stock: Stock<M>,
     calls: Worked<'_>,
     text: &mut String,
 ) -> Result<(), Fail> {
-    let mut trial = open(alloc, calls.shape, maps, first)?;
-    lines_made(rt, alloc, &mut trial, calls, text)
+    let mut trial = open(stock, calls.shape)?;
+    lines_made(rt, &mut trial, calls, text)
 }
 
 /// A header, the cells of rows, the attribute of a head, and calls of a table of them with their replies.
