@@ -17,6 +17,13 @@ enum Way {
     Prepare,
 }
 
+/// A line, and what is done with its call.
+#[derive(Clone, Copy)]
+struct Asked<'l> {
+    line: &'l str,
+    way: Way,
+}
+
 /// What is done with the call of a line, and the call's text.
 fn way_of(line: &str) -> (Way, &str) {
     if let Some(text) = line.strip_prefix("prepare ") {
@@ -62,12 +69,11 @@ fn call_again<R: Print + Threads + Sync, M: CrackerMap>(
     schema: &Schema,
     side: &mut Side<M>,
     call: &Call,
-    line: &str,
-    way: Way,
+    asked: Asked<'_>,
 ) -> io::Result<()> {
     for _turn in 0..TURNS {
-        println!(rt; "> {line}")?;
-        match reply_of(rt, side, call, way) {
+        println!(rt; "> {}", asked.line)?;
+        match reply_of(rt, side, call, asked.way) {
             Ok(reply) => {
                 tell_reply(rt, schema, call, &reply)?;
                 return side.see(rt);
@@ -145,7 +151,7 @@ fn make_call<R: Print + Threads + Sync, M: CrackerMap>(
             return prepare_again(rt, side, query, text);
         }
     }
-    call_again(rt, schema, side, &call, line, way)
+    call_again(rt, schema, side, &call, Asked { line, way })
 }
 
 /// What a line says is made.
