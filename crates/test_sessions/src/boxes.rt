@@ -4,7 +4,7 @@ ghost use Rattle.std.specs.Prelude.{◌≡◌, ◌<◌, ℕ, true, length, IfOk}
 ghost use Rattle.sw_lang.specs.Cuts.{AreCuts, cuts_on};
 ghost use Rattle.sw_spine.specs.Table.{is_numbered};
 
-use crate::engines::{Table, play, refused_before, rows_of};
+use crate::engines::{Stage, Table, play, refused_before, rows_of};
 use crate::telling::HEADER;
 use std::alloc::Global;
 use std::io;
@@ -53,8 +53,13 @@ fn tried<M: CrackerMap, R: Print + Threads + Wait + Sync>(
         Ok(schema) => schema,
         Err(e) => return refused_before(rt, "table", e),
     };
+    let stage = Stage {
+        maps,
+        schema: &schema,
+        lines: task.lines,
+    };
     match table_of(alloc, cuts) {
-        Ok(table) => play::<Brand, M, R>(rt, alloc, Blank::new(), table, &schema, task.lines, maps),
+        Ok(table) => play::<Brand, M, R>(rt, alloc, Blank::new(), table, stage),
         Err(e) => refused_before(rt, "table", e),
     }
 }

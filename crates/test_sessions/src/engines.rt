@@ -5,7 +5,7 @@ ghost use Rattle.sw_lang.specs.Cuts.{AreCuts, cuts_on};
 ghost use Rattle.sw_spine.specs.Table.{is_numbered};
 ghost use Rattle.test_sessions.specs.declared.telling.TheConstants.{LIMIT};
 
-use crate::halls::make_all;
+use crate::halls::{Hall, make_all};
 use crate::telling::{CELLS, LIMIT, TURNS};
 use std::alloc::Global;
 use std::io;
@@ -23,6 +23,14 @@ pub(crate) struct Table {
     pub schema: Schema,
     pub rows: PackedRows,
     pub cuts: Cuts,
+}
+
+/// What comes onto an engine: boxes of its first head, and lines, which are read by a schema.
+#[derive(Drop)]
+pub(crate) struct Stage<'a, M: CrackerMap> {
+    pub maps: Vec<M>,
+    pub schema: &'a Schema,
+    pub lines: &'a [String],
 }
 
 /// The row of a key and its cells.
@@ -130,16 +138,19 @@ fn calls_on<J: Naming, M: CrackerMap, R: Print + Threads + Wait + Sync>(
     alloc: Global,
     engine: Engine<J, M>,
     tickets: Vec<Ticket<J>>,
-    schema: &Schema,
-    lines: &[String],
-    maps: Vec<M>,
+    stage: Stage<'_, M>,
 ) -> io::Result<()> {
+    let Stage {
+        maps,
+        schema,
+        lines,
+    } = stage;
     let mut tickets = tickets;
     supply_all(rt, &engine, maps)?;
     let Some(ticket) = tickets.pop() else {
         return Ok(());
     };
-    let ticket = make_all(rt, alloc, &engine, schema, ticket, lines)?;
+    let ticket = make_all(rt, alloc, Hall::new(&engine, schema, ticket), lines)?;
     tickets.push_reserved(ticket);
     close_all(rt, engine, tickets)
 }
@@ -150,12 +161,10 @@ fn calls_opened<J: Naming, M: CrackerMap, R: Print + Threads + Wait + Sync>(
     alloc: Global,
     engine: Engine<J, M>,
     tickets: Vec<Ticket<J>>,
-    schema: &Schema,
-    lines: &[String],
-    maps: Vec<M>,
+    stage: Stage<'_, M>,
 ) -> io::Result<bool> {
     println!(rt; "> open\ndone")?;
-    calls_on(rt, alloc, engine, tickets, schema, lines, maps)?;
+    calls_on(rt, alloc, engine, tickets, stage)?;
     Ok(true)
 }
 
@@ -171,9 +180,7 @@ fn play_on<J: Naming, M: CrackerMap, R: Print + Threads + Wait + Sync>(
     alloc: Global,
     books: Blank,
     table: Table,
-    schema: &Schema,
-    lines: &[String],
-    maps: Vec<M>,
+    stage: Stage<'_, M>,
 ) -> io::Result<bool>
     requires books { (books.sessions.name ≡ J.sessions) × (books.heads.name ≡ J.heads) × (books.most ≡ J.most) }
     requires list { books.list.seen.book ≡ J.book }
@@ -182,13 +189,9 @@ fn play_on<J: Naming, M: CrackerMap, R: Print + Threads + Wait + Sync>(
     requires lists { length table.cuts ≡ length table.schema }
     requires cuts { (a : ℕ) → a < length table.schema → AreCuts (cuts_on table.cuts a) }
 {
-    let Table {
-        schema: own,
-        rows,
-        cuts,
-    } = table;
-    match Engine::<J, M>::open_for(alloc, books, own, rows, cuts, LIMIT, 1) {
-        Ok((engine, tickets)) => calls_opened(rt, alloc, engine, tickets, schema, lines, maps),
+    let Table { schema, rows, cuts } = table;
+    match Engine::<J, M>::open_for(alloc, books, schema, rows, cuts, LIMIT, 1) {
+        Ok((engine, tickets)) => calls_opened(rt, alloc, engine, tickets, stage),
         Err(e) => refused_before(rt, "open", e),
     }
 }
@@ -199,9 +202,7 @@ pub(crate) fn play<J: Naming, M: CrackerMap, R: Print + Threads + Wait + Sync>(
     alloc: Global,
     books: Blank,
     table: Table,
-    schema: &Schema,
-    lines: &[String],
-    maps: Vec<M>,
+    stage: Stage<'_, M>,
 ) -> io::Result<bool>
     requires books { (books.sessions.name ≡ J.sessions) × (books.heads.name ≡ J.heads) × (books.most ≡ J.most) }
     requires list { books.list.seen.book ≡ J.book }
@@ -210,5 +211,5 @@ pub(crate) fn play<J: Naming, M: CrackerMap, R: Print + Threads + Wait + Sync>(
     requires lists { length table.cuts ≡ length table.schema }
     requires cuts { (a : ℕ) → a < length table.schema → AreCuts (cuts_on table.cuts a) }
 {
-    play_on::<J, M, R>(rt, alloc, books, table, schema, lines, maps)
+    play_on::<J, M, R>(rt, alloc, books, table, stage)
 }

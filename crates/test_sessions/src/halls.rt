@@ -15,12 +15,31 @@ use sw_map::CrackerMap;
 use sw_rows::{Call, Counted, Reply, Schema};
 use sw_spine::State;
 
-/// A session, and up to two viewers.
+/// A session of an engine, up to two viewers of it, and the schema by which lines are read.
 #[derive(Drop)]
-struct Hall<'e, J: Naming, M: CrackerMap> {
+pub(crate) struct Hall<'e, J: Naming, M: CrackerMap> {
+    engine: &'e Engine<J, M>,
+    schema: &'e Schema,
     session: Session<'e, J, M>,
     first: Option<Viewer<'e, J>>,
     second: Option<Viewer<'e, J>>,
+}
+
+impl<'e, J: Naming, M: CrackerMap> Hall<'e, J, M> {
+    /// The session of a ticket, and no viewers.
+    pub(crate) fn new(
+        engine: &'e Engine<J, M>,
+        schema: &'e Schema,
+        ticket: Ticket<J>,
+    ) -> Hall<'e, J, M> {
+        Hall {
+            engine,
+            schema,
+            session: engine.attach(ticket),
+            first: None,
+            second: None,
+        }
+    }
 }
 
 /// Writes a reply.
@@ -112,16 +131,15 @@ fn view_again<J: Naming, R: Print>(
 /// Each viewer answers.
 fn view_all<J: Naming, M: CrackerMap, R: Print>(
     rt: &R,
-    schema: &Schema,
     hall: &mut Hall<'_, J, M>,
     call: &Call,
     line: &str,
 ) -> io::Result<()> {
     if let Some(viewer) = &mut hall.first {
-        view_again(rt, schema, viewer, call, line)?;
+        view_again(rt, hall.schema, viewer, call, line)?;
     }
     if let Some(viewer) = &mut hall.second {
-        view_again(rt, schema, viewer, call, line)?;
+        view_again(rt, hall.schema, viewer, call, line)?;
     }
     Ok(())
 }
@@ -144,8 +162,6 @@ fn learn_all<J: Naming, M: CrackerMap, R: Print>(
 fn make_call<J: Naming, M: CrackerMap, R: Print + Threads + Wait + Sync>(
     rt: &R,
     alloc: Global,
-    engine: &Engine<J, M>,
-    schema: &Schema,
     hall: &mut Hall<'_, J, M>,
     line: &str,
 ) -> io::Result<()> {
@@ -153,30 +169,28 @@ fn make_call<J: Naming, M: CrackerMap, R: Print + Threads + Wait + Sync>(
         Some(text) => (text, true),
         None => (line, false),
     };
-    let Some(call) = call_of(rt, alloc, schema, text)? else {
+    let Some(call) = call_of(rt, alloc, hall.schema, text)? else {
         return Ok(());
     };
     if is_view {
-        return view_all(rt, schema, hall, &call, text);
+        return view_all(rt, hall, &call, text);
     }
-    if calls_below(&call, engine.heads()) {
-        return call_again(rt, schema, &mut hall.session, &call, text);
+    if calls_below(&call, hall.engine.heads()) {
+        return call_again(rt, hall.schema, &mut hall.session, &call, text);
     }
     Ok(())
 }
 
 /// What a line says is made.
-fn make<'e, J: Naming, M: CrackerMap, R: Print + Threads + Wait + Sync>(
+fn make<J: Naming, M: CrackerMap, R: Print + Threads + Wait + Sync>(
     rt: &R,
     alloc: Global,
-    engine: &'e Engine<J, M>,
-    schema: &Schema,
-    hall: &mut Hall<'e, J, M>,
+    hall: &mut Hall<'_, J, M>,
     line: &str,
 ) -> io::Result<()> {
     match line.as_bytes() {
         b"viewer" => {
-            let viewer = viewer_again(rt, engine)?;
+            let viewer = viewer_again(rt, hall.engine)?;
             if hall.first.is_none() {
                 hall.first = viewer;
             } else {
@@ -186,31 +200,25 @@ fn make<'e, J: Naming, M: CrackerMap, R: Print + Threads + Wait + Sync>(
         }
         b"learn" => learn_all(rt, hall),
         b"clear" => {
-            if engine.heads() > 0 {
-                let _gone = engine.shed(rt, 0, 1);
+            if hall.engine.heads() > 0 {
+                let _gone = hall.engine.shed(rt, 0, 1);
             }
             println!(rt; "> clear\ndone")
         }
-        _ => make_call(rt, alloc, engine, schema, hall, line),
+        _ => make_call(rt, alloc, hall, line),
     }
 }
 
-/// What the lines say is made in order, by the session of a ticket, which comes back.
-pub(crate) fn make_all<'e, J: Naming, M: CrackerMap, R: Print + Threads + Wait + Sync>(
+/// What the lines say is made in order, by the session, whose ticket comes back, and its viewers.
+pub(crate) fn make_all<J: Naming, M: CrackerMap, R: Print + Threads + Wait + Sync>(
     rt: &R,
     alloc: Global,
-    engine: &'e Engine<J, M>,
-    schema: &Schema,
-    ticket: Ticket<J>,
+    hall: Hall<'_, J, M>,
     lines: &[String],
 ) -> io::Result<Ticket<J>> {
-    let mut hall = Hall {
-        session: engine.attach(ticket),
-        first: None,
-        second: None,
-    };
+    let mut hall = hall;
     for line in lines {
-        make(rt, alloc, engine, schema, &mut hall, line.as_str())?;
+        make(rt, alloc, &mut hall, line.as_str())?;
     }
     let Hall { session, .. } = hall;
     Ok(session.end())
