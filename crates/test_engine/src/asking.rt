@@ -6,7 +6,7 @@ ghost use Rattle.sw_query.specs.Scan.{AsksBelow};
 use crate::boxes::{Refusing, refusing};
 use crate::opening::{Boxes, Table, supply};
 use crate::running::{HEADER, TABLE};
-use crate::told::{held, show};
+use crate::told::{Telling, held, show};
 use std::alloc::{AllocError, Global};
 use std::marker::Brand;
 use std::sync::Wait;
@@ -73,117 +73,107 @@ fn tell_answer<J: Naming>(
 }
 
 /// Tells what a viewer answers: how many rows there are, and how many have an a below 10.
-fn look<J: Naming>(
-    alloc: Global,
-    text: &mut String,
+fn look<J: Naming, R: Wait>(
+    telling: &mut Telling<'_, R>,
     viewer: &mut Viewer<'_, J>,
 ) -> Result<(), Refusal> {
-    tell_answer(text, viewer, &count_all(alloc))?;
-    held(text.push_str(" "))?;
-    tell_answer(text, viewer, &count_below(alloc, 10)?)?;
-    held(text.push_str("; "))
+    let alloc = telling.alloc;
+    tell_answer(telling.text, viewer, &count_all(alloc))?;
+    held(telling.text.push_str(" "))?;
+    tell_answer(telling.text, viewer, &count_below(alloc, 10)?)?;
+    held(telling.text.push_str("; "))
 }
 
 /// Opens viewers until one is refused, and tells how many there were, and the refusal.
 fn open_all<J: Naming, M: CrackerMap, R: Wait>(
-    rt: &R,
+    telling: &mut Telling<'_, R>,
     engine: &Engine<J, M>,
-    text: &mut String,
 ) -> Result<(), AllocError> {
     for many in 0..2 * VIEWERS {
-        if let Err(refusal) = engine.viewer(rt) {
-            return write!(text, "{many} more, then {refusal}");
+        if let Err(refusal) = engine.viewer(telling.rt) {
+            return write!(telling.text, "{many} more, then {refusal}");
         }
     }
-    text.push_str("no end")
+    telling.text.push_str("no end")
 }
 
 /// A viewer looks before an insertion and, when it has learnt the receipt, after it.
 fn look_around<J: Naming, M: CrackerMap, R: Wait>(
-    rt: &R,
-    alloc: Global,
+    telling: &mut Telling<'_, R>,
     one: &mut Session<'_, J, M>,
     viewer: &mut Viewer<'_, J>,
-    text: &mut String,
 ) -> Result<(), Refusal> {
-    look(alloc, text, viewer)?;
-    one.insert(rt, [1, 9, 0, 0, 0, 0, 0, 0])?;
+    look(telling, viewer)?;
+    one.insert(telling.rt, [1, 9, 0, 0, 0, 0, 0, 0])?;
     viewer.learn(one.receipt());
-    look(alloc, text, viewer)
+    look(telling, viewer)
 }
 
 /// A later viewer looks, is met and learns the receipt of before a deletion; the first is met after it and looks; then the later one
 /// learns the receipt of the deletion and looks.
 fn look_in_turn<J: Naming, M: CrackerMap, R: Wait>(
-    rt: &R,
-    alloc: Global,
+    telling: &mut Telling<'_, R>,
     two: &mut Session<'_, J, M>,
     viewer: &mut Viewer<'_, J>,
     later: &mut Viewer<'_, J>,
-    text: &mut String,
 ) -> Result<(), Refusal> {
-    look(alloc, text, later)?;
+    let rt = telling.rt;
+    look(telling, later)?;
     let receipt = two.meet(rt, later)?;
     two.delete(rt, 2)?;
     later.learn(receipt);
     two.meet(rt, viewer)?;
-    look(alloc, text, viewer)?;
+    look(telling, viewer)?;
     later.learn(two.receipt());
-    look(alloc, text, later)
+    look(telling, later)
 }
 
 /// A later viewer is opened, and both look; then viewers are opened until one is refused.
 fn look_later<J: Naming, M: CrackerMap, R: Wait>(
-    rt: &R,
-    alloc: Global,
+    telling: &mut Telling<'_, R>,
     engine: &Engine<J, M>,
     two: &mut Session<'_, J, M>,
     viewer: &mut Viewer<'_, J>,
-    text: &mut String,
 ) -> Result<(), Refusal> {
-    let mut later = engine.viewer(rt)?;
-    look_in_turn(rt, alloc, two, viewer, &mut later, text)?;
-    held(open_all(rt, engine, text))
+    let mut later = engine.viewer(telling.rt)?;
+    look_in_turn(telling, two, viewer, &mut later)?;
+    held(open_all(telling, engine))
 }
 
 /// A viewer is opened and looks while two sessions write in turn, the first one and then the second.
 fn look_beside<J: Naming, M: CrackerMap, R: Wait>(
-    rt: &R,
-    alloc: Global,
+    telling: &mut Telling<'_, R>,
     engine: &Engine<J, M>,
     one: &mut Session<'_, J, M>,
     two: &mut Session<'_, J, M>,
-    text: &mut String,
 ) -> Result<(), Refusal> {
-    let mut viewer = engine.viewer(rt)?;
-    look_around(rt, alloc, one, &mut viewer, text)?;
-    look_later(rt, alloc, engine, two, &mut viewer, text)
+    let mut viewer = engine.viewer(telling.rt)?;
+    look_around(telling, one, &mut viewer)?;
+    look_later(telling, engine, two, &mut viewer)
 }
 
 /// Two sessions write in turn, and viewers look between: the first viewer learns a receipt and is met, the second is opened later.
 /// Tells what they see and how many further viewers there were, and adds the sessions' tickets.
 fn look_on<J: Naming, M: CrackerMap, R: Wait>(
-    rt: &R,
-    alloc: Global,
+    telling: &mut Telling<'_, R>,
     engine: &Engine<J, M>,
     tickets: &mut Vec<Ticket<J>>,
-    text: &mut String,
 ) -> Result<(), Refusal> {
+    let rt = telling.rt;
     let mut one = engine.session(rt)?;
     let mut two = engine.session(rt)?;
-    look_beside(rt, alloc, engine, &mut one, &mut two, text)?;
+    look_beside(telling, engine, &mut one, &mut two)?;
     held(tickets.push(one.end()))?;
     held(tickets.push(two.end()))
 }
 
 /// Tells what a viewer answers: how many rows there are, how many have an a below 10, and all rows.
-fn look_at_all<J: Naming>(
-    alloc: Global,
-    text: &mut String,
+fn look_at_all<J: Naming, R: Wait>(
+    telling: &mut Telling<'_, R>,
     viewer: &mut Viewer<'_, J>,
 ) -> Result<(), Refusal> {
-    look(alloc, text, viewer)?;
-    tell_answer(text, viewer, &rows_all(alloc)?)
+    look(telling, viewer)?;
+    tell_answer(telling.text, viewer, &rows_all(telling.alloc)?)
 }
 
 /// A session inserts so many rows, 4,000 at most, whose b is the key, and deletes as many from the key 2 on, of which each
@@ -211,11 +201,9 @@ fn write_many<J: Naming, M: CrackerMap, R: Wait>(
 /// A viewer looks at all when it has learnt a session's receipt, before the session deletes the rows whose a is 12 by one call, and
 /// after it. Tells also how many went.
 fn look_around_deletion<J: Naming, M: CrackerMap, R: Wait>(
-    rt: &R,
-    alloc: Global,
+    telling: &mut Telling<'_, R>,
     one: &mut Session<'_, J, M>,
     viewer: &mut Viewer<'_, J>,
-    text: &mut String,
 ) -> Result<(), Refusal>
     requires { 1 < length J.columns }
 {
@@ -225,124 +213,118 @@ fn look_around_deletion<J: Naming, M: CrackerMap, R: Wait>(
         upper: Some(Bound::After(12)),
     };
     viewer.learn(one.receipt());
-    look_at_all(alloc, text, viewer)?;
-    held(text.push_str("; "))?;
-    let reply = one.delete_where(rt, &[twelve])?;
-    held(show(text, &reply))?;
-    held(text.push_str("; "))?;
+    look_at_all(telling, viewer)?;
+    held(telling.text.push_str("; "))?;
+    let reply = one.delete_where(telling.rt, &[twelve])?;
+    held(show(telling.text, &reply))?;
+    held(telling.text.push_str("; "))?;
     viewer.learn(one.receipt());
-    look_at_all(alloc, text, viewer)
+    look_at_all(telling, viewer)
 }
 
 /// The first viewer is opened behind a session's calls, and looks around such a deletion; behind it a second one is opened, which
 /// looks at all.
 fn look_behind<J: Naming, M: CrackerMap, R: Wait>(
-    rt: &R,
-    alloc: Global,
+    telling: &mut Telling<'_, R>,
     engine: &Engine<J, M>,
     one: &mut Session<'_, J, M>,
-    text: &mut String,
 ) -> Result<(), Refusal>
     requires { 1 < length J.columns }
 {
+    let rt = telling.rt;
     let mut viewer = engine.viewer(rt)?;
-    look_around_deletion(rt, alloc, one, &mut viewer, text)?;
+    look_around_deletion(telling, one, &mut viewer)?;
     let mut later = engine.viewer(rt)?;
-    held(text.push_str("; "))?;
-    look_at_all(alloc, text, &mut later)
+    held(telling.text.push_str("; "))?;
+    look_at_all(telling, &mut later)
 }
 
 /// A session inserts so many rows before there is a viewer, and viewers look behind it. Tells what they see, and answers the
 /// session's ticket.
 fn look_late<J: Naming, M: CrackerMap, R: Wait>(
-    rt: &R,
-    alloc: Global,
+    telling: &mut Telling<'_, R>,
     engine: &Engine<J, M>,
     many: u64,
-    text: &mut String,
 ) -> Result<Ticket<J>, Refusal>
     requires { 1 < length J.columns }
 {
+    let rt = telling.rt;
     let mut one = engine.session(rt)?;
     write_many(rt, &mut one, many)?;
-    look_behind(rt, alloc, engine, &mut one, text)?;
+    look_behind(telling, engine, &mut one)?;
     Ok(one.end())
 }
 
 /// Tells whether a session's receipt has all updates.
 fn tell_whole<J: Naming, M: CrackerMap, R: Wait>(
-    rt: &R,
+    telling: &mut Telling<'_, R>,
     session: &mut Session<'_, J, M>,
-    text: &mut String,
 ) -> Result<(), Refusal> {
-    let all = session.is_whole(rt);
-    held(text.push_str(if all { "all" } else { "not all" }))
+    let all = session.is_whole(telling.rt);
+    held(telling.text.push_str(if all { "all" } else { "not all" }))
 }
 
 /// A session inserts, so that the receipt of another one lacks a row; that one publishes, and a viewer that learns its receipt looks.
 fn publish_beside<J: Naming, M: CrackerMap, R: Wait>(
-    rt: &R,
-    alloc: Global,
+    telling: &mut Telling<'_, R>,
     one: &mut Session<'_, J, M>,
     two: &mut Session<'_, J, M>,
     viewer: &mut Viewer<'_, J>,
-    text: &mut String,
 ) -> Result<(), Refusal> {
+    let rt = telling.rt;
     one.insert(rt, [1, 9, 0, 0, 0, 0, 0, 0])?;
-    tell_whole(rt, one, text)?;
-    held(text.push_str("; "))?;
-    tell_whole(rt, two, text)?;
-    held(text.push_str("; "))?;
+    tell_whole(telling, one)?;
+    held(telling.text.push_str("; "))?;
+    tell_whole(telling, two)?;
+    held(telling.text.push_str("; "))?;
     viewer.learn(two.publish(rt)?);
-    look(alloc, text, viewer)?;
-    tell_whole(rt, two, text)
+    look(telling, viewer)?;
+    tell_whole(telling, two)
 }
 
 /// Tells whose receipts have all updates before and after a publishing, and adds the sessions' tickets.
 fn publish_on<J: Naming, M: CrackerMap, R: Wait>(
-    rt: &R,
-    alloc: Global,
+    telling: &mut Telling<'_, R>,
     engine: &Engine<J, M>,
     tickets: &mut Vec<Ticket<J>>,
-    text: &mut String,
 ) -> Result<(), Refusal> {
+    let rt = telling.rt;
     let mut one = engine.session(rt)?;
     let mut two = engine.session(rt)?;
     let mut viewer = engine.viewer(rt)?;
-    publish_beside(rt, alloc, &mut one, &mut two, &mut viewer, text)?;
+    publish_beside(telling, &mut one, &mut two, &mut viewer)?;
     held(tickets.push(one.end()))?;
     held(tickets.push(two.end()))
 }
 
 /// Tells where a session's last entry stands.
 fn tell_place<J: Naming, M: CrackerMap, R: Wait>(
-    rt: &R,
+    telling: &mut Telling<'_, R>,
     session: &mut Session<'_, J, M>,
-    text: &mut String,
 ) -> Result<(), Refusal> {
-    match session.place(rt) {
-        Some(place) => held(write!(text, ", place {place}")),
-        None => held(text.push_str(", no place")),
+    match session.place(telling.rt) {
+        Some(place) => held(write!(telling.text, ", place {place}")),
+        None => held(telling.text.push_str(", no place")),
     }
 }
 
 /// Takes up to five boxes back from the first head, and tells how many went. Adds the tickets of a session that inserts a row of
 /// zeros and deletes the row of key 1, and tells where its entries stand, and of one that makes no call.
 fn shed<J: Naming, M: CrackerMap, R: Wait>(
-    rt: &R,
+    telling: &mut Telling<'_, R>,
     engine: &Engine<J, M>,
     tickets: &mut Vec<Ticket<J>>,
-    text: &mut String,
 ) -> Result<(), Refusal>
     requires { 1 < length J.columns }
 {
-    held(write!(text, "{} boxes", engine.shed(rt, 0, 5)))?;
+    let rt = telling.rt;
+    held(write!(telling.text, "{} boxes", engine.shed(rt, 0, 5)))?;
     let mut session = engine.session(rt)?;
-    tell_place(rt, &mut session, text)?;
+    tell_place(telling, &mut session)?;
     session.insert(rt, [0; 8])?;
-    tell_place(rt, &mut session, text)?;
+    tell_place(telling, &mut session)?;
     session.delete(rt, 1)?;
-    tell_place(rt, &mut session, text)?;
+    tell_place(telling, &mut session)?;
     held(tickets.push(session.end()))?;
     let other = engine.session(rt)?.end();
     held(tickets.push(other))
@@ -350,35 +332,37 @@ fn shed<J: Naming, M: CrackerMap, R: Wait>(
 
 /// Tells how many entries the record has where the engine is closed with these tickets.
 fn close_with<J: Naming, M: CrackerMap, R: Wait>(
-    rt: &R,
+    telling: &mut Telling<'_, R>,
     engine: Engine<J, M>,
     tickets: Vec<Ticket<J>>,
-    text: &mut String,
 ) -> Result<(), Refusal> {
-    match engine.close(rt, tickets) {
-        Ok(record) => held(write!(text, "; {} entries", record.entries.as_slice().len())),
-        Err(_) => held(text.push_str("; refused with both tickets")),
+    match engine.close(telling.rt, tickets) {
+        Ok(record) => held(write!(
+            telling.text,
+            "; {} entries",
+            record.entries.as_slice().len()
+        )),
+        Err(_) => held(telling.text.push_str("; refused with both tickets")),
     }
 }
 
 /// Tells what `close` says without the last of the tickets, and then with it.
 fn close_twice<J: Naming, M: CrackerMap, R: Wait>(
-    rt: &R,
+    telling: &mut Telling<'_, R>,
     engine: Engine<J, M>,
     tickets: Vec<Ticket<J>>,
-    text: &mut String,
 ) -> Result<(), Refusal> {
     let mut tickets = tickets;
     let Some(other) = tickets.pop() else {
         return Err(Refusal::Input);
     };
-    match engine.close(rt, tickets) {
-        Ok(_) => held(text.push_str("; a record with a ticket missing")),
+    match engine.close(telling.rt, tickets) {
+        Ok(_) => held(telling.text.push_str("; a record with a ticket missing")),
         Err((engine, tickets, refusal)) => {
             let mut tickets = tickets;
-            held(write!(text, "; {refusal}"))?;
+            held(write!(telling.text, "; {refusal}"))?;
             held(tickets.push(other))?;
-            close_with(rt, engine, tickets, text)
+            close_with(telling, engine, tickets)
         }
     }
 }
@@ -399,41 +383,38 @@ pub(crate) enum Asked {
 
 /// Asks it, and closes the engine, first without the last ticket.
 fn ask_at<J: Naming, M: CrackerMap, R: Wait>(
-    rt: &R,
-    alloc: Global,
+    telling: &mut Telling<'_, R>,
     engine: Engine<J, M>,
     asked: Asked,
-    text: &mut String,
 ) -> Result<(), Refusal>
     requires { 1 < length J.columns }
 {
-    let mut tickets = Vec::new(alloc);
+    let mut tickets = Vec::new(telling.alloc);
     match asked {
-        Asked::Boxes => shed(rt, &engine, &mut tickets, text)?,
-        Asked::Views => look_on(rt, alloc, &engine, &mut tickets, text)?,
+        Asked::Boxes => shed(telling, &engine, &mut tickets)?,
+        Asked::Views => look_on(telling, &engine, &mut tickets)?,
         Asked::LateViews(many) => {
-            let ticket = look_late(rt, alloc, &engine, many, text)?;
+            let ticket = look_late(telling, &engine, many)?;
             held(tickets.push(ticket))?;
         }
-        Asked::Publishing => publish_on(rt, alloc, &engine, &mut tickets, text)?,
+        Asked::Publishing => publish_on(telling, &engine, &mut tickets)?,
     }
-    close_twice(rt, engine, tickets, text)
+    close_twice(telling, engine, tickets)
 }
 
 /// Asks it of an engine that is opened and given its boxes.
 fn ask_on<J: Naming, M: CrackerMap, R: Wait>(
-    rt: &R,
-    alloc: Global,
+    telling: &mut Telling<'_, R>,
     books: Blank,
     table: Table,
     boxes: Boxes<M>,
     asked: Asked,
-    text: &mut String,
 ) -> Result<(), Refusal>
     requires books { (books.sessions.name ≡ J.sessions) × (books.heads.name ≡ J.heads) × (books.most ≡ J.most) }
     requires list { books.list.seen.book ≡ J.book }
     requires table { (table.schema ≡ J.columns) × (table.rows.items ≡ J.opening) × (table.limit ≡ J.limit) }
 {
+    let alloc = telling.alloc;
     let Table {
         schema,
         rows,
@@ -442,36 +423,30 @@ fn ask_on<J: Naming, M: CrackerMap, R: Wait>(
         ..
     } = table;
     let engine = Engine::<J, M>::open(alloc, books, schema, rows, cuts, limit)?;
-    supply(rt, alloc, &engine, boxes)?;
-    ask_at(rt, alloc, engine, asked, text)
+    let _ = supply(telling.rt, alloc, &engine, boxes)?;
+    ask_at(telling, engine, asked)
 }
 
 /// The same where the names are picked: what a copy of the rows makes of an update is known here, as it is not under a bound.
 fn ask_picked<J: Naming, M: CrackerMap, R: Wait>(
-    rt: &R,
-    alloc: Global,
+    telling: &mut Telling<'_, R>,
     books: Blank,
     table: Table,
     boxes: Boxes<M>,
     asked: Asked,
-    text: &mut String,
 ) -> Result<(), Refusal>
     requires books { (books.sessions.name ≡ J.sessions) × (books.heads.name ≡ J.heads) × (books.most ≡ J.most) }
     requires list { books.list.seen.book ≡ J.book }
     requires table { (table.schema ≡ J.columns) × (table.rows.items ≡ J.opening) × (table.limit ≡ J.limit) }
 {
-    ask_on::<J, M, R>(rt, alloc, books, table, boxes, asked, text)
+    ask_on::<J, M, R>(telling, books, table, boxes, asked)
 }
 
 /// The same over the four rows, with two boxes at the first head.
-pub(crate) fn ask<R: Wait>(
-    rt: &R,
-    alloc: Global,
-    asked: Asked,
-    text: &mut String,
-) -> Result<(), Refusal> {
+pub(crate) fn ask<R: Wait>(telling: &mut Telling<'_, R>, asked: Asked) -> Result<(), Refusal> {
+    let alloc = telling.alloc;
     let boxes = Boxes::at(alloc, refusing(alloc, 2, 1 << 20, 0)?, Vec::new(alloc));
     let schema = Schema::of(alloc, TextKey::fixed(), &HEADER)?;
     let table = Table::of(alloc, TABLE, schema)?;
-    ask_picked::<Brand, Refusing, R>(rt, alloc, Blank::new(), table, boxes, asked, text)
+    ask_picked::<Brand, Refusing, R>(telling, Blank::new(), table, boxes, asked)
 }

@@ -4,6 +4,7 @@ use crate::asking::{Asked, ask};
 use crate::lines::{fault, noting};
 use crate::runs::{begun, met_in_run, shared};
 use crate::sessions::{among, counted, crowded, insisted, mixed, raced, told_of, waited};
+use crate::told::Telling;
 use std::alloc::{AllocError, Global};
 use std::sync::Wait;
 use std::thread::Threads;
@@ -43,43 +44,39 @@ fn five(text: &str) -> [u64; 5] {
 
 /// Makes a trial to which something is given.
 fn tell<R: Threads + Wait + Sync>(
-    rt: &R,
-    alloc: Global,
+    telling: &mut Telling<'_, R>,
     cuts: &str,
     word: &str,
     given: &str,
-    text: &mut String,
 ) -> Result<(), Refusal> {
     let (first, rest) = numbered(given);
     let many = first as usize;
     match word {
-        "told" => told_of(rt, alloc, many, 1, cuts, rest, text),
-        "raced" => raced(rt, alloc, many, cuts, rest, text),
-        "insisted" => insisted(rt, alloc, many, rest, text),
-        "counted" => counted(rt, alloc, many, rest, text),
-        "waited" => waited(rt, alloc, many, rest, text),
-        "mixed" => mixed(rt, alloc, five(given), cuts, text),
-        "among" => among(rt, alloc, first, number(rest), cuts, text),
-        "viewed-late" => ask(rt, alloc, Asked::LateViews(first), text),
-        "begun" => begun(rt, alloc, many, cuts, rest, text),
-        _ => tell_fixed(rt, alloc, word, text),
+        "told" => told_of(telling, many, 1, cuts, rest),
+        "raced" => raced(telling, many, cuts, rest),
+        "insisted" => insisted(telling, many, rest),
+        "counted" => counted(telling, many, rest),
+        "waited" => waited(telling, many, rest),
+        "mixed" => mixed(telling, five(given), cuts),
+        "among" => among(telling, first, number(rest), cuts),
+        "viewed-late" => ask(telling, Asked::LateViews(first)),
+        "begun" => begun(telling, many, cuts, rest),
+        _ => tell_fixed(telling, word),
     }
 }
 
 /// Makes a trial to which nothing is given.
 fn tell_fixed<R: Threads + Wait + Sync>(
-    rt: &R,
-    alloc: Global,
+    telling: &mut Telling<'_, R>,
     word: &str,
-    text: &mut String,
 ) -> Result<(), Refusal> {
     match word {
-        "closed" => ask(rt, alloc, Asked::Boxes, text),
-        "viewed" => ask(rt, alloc, Asked::Views, text),
-        "published" => ask(rt, alloc, Asked::Publishing, text),
-        "crowded" => crowded(rt, alloc, text),
-        "met-in-run" => met_in_run(rt, alloc, text),
-        "shared" => shared(rt, alloc, text),
+        "closed" => ask(telling, Asked::Boxes),
+        "viewed" => ask(telling, Asked::Views),
+        "published" => ask(telling, Asked::Publishing),
+        "crowded" => crowded(telling),
+        "met-in-run" => met_in_run(telling),
+        "shared" => shared(telling),
         _ => Ok(()),
     }
 }
@@ -118,7 +115,12 @@ impl Bench {
             "noting" => return noting(alloc, given, &mut self.text),
             _ => {}
         }
-        match tell(rt, alloc, self.cuts.as_str(), word, given, &mut self.text) {
+        let mut telling = Telling {
+            rt,
+            alloc,
+            text: &mut self.text,
+        };
+        match tell(&mut telling, self.cuts.as_str(), word, given) {
             Ok(()) => Ok(()),
             Err(refusal) => write!(self.text, "refused {refusal}"),
         }

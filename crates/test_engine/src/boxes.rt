@@ -91,23 +91,18 @@ fn gate(signals: &Signals, sights: &Sights) -> Result<Gate, AllocError> {
     })
 }
 
-/// Adds maps that count their calls together, behind one gate.
-fn add_watching(
+/// A map that counts its calls with others, and is behind a gate.
+fn watched(
     alloc: Global,
     purse: &mut Purse,
-    maps: &mut Vec<Watching>,
-    many: usize,
     signals: &Signals,
     sights: &Sights,
-) -> Result<(), Refusal> {
-    for _ in 0..many {
-        let mine = purse.split()?;
-        let gate = held(gate(signals, sights))?;
-        let counts = held(Arc::try_clone(&sights.counts))?;
-        let map = CountingMap::new(PairMap::blank(alloc, mine), counts);
-        held(maps.push(GatedMap::new(map, gate)))?;
-    }
-    Ok(())
+) -> Result<Watching, Refusal> {
+    let mine = purse.split()?;
+    let gate = held(gate(signals, sights))?;
+    let counts = held(Arc::try_clone(&sights.counts))?;
+    let map = CountingMap::new(PairMap::blank(alloc, mine), counts);
+    Ok(GatedMap::new(map, gate))
 }
 
 /// So many maps that count their calls together, behind one gate.
@@ -119,7 +114,10 @@ pub(crate) fn watching(
 ) -> Result<Vec<Watching>, Refusal> {
     let (_budget, mut purse) = Budget::open(alloc, 1 << 20)?;
     let mut maps = Vec::new(alloc);
-    add_watching(alloc, &mut purse, &mut maps, many, signals, sights)?;
+    for _ in 0..many {
+        let map = watched(alloc, &mut purse, signals, sights)?;
+        held(maps.push(map))?;
+    }
     Ok(maps)
 }
 
@@ -140,7 +138,9 @@ pub(crate) fn crossed(
     let (_budget, mut purse) = Budget::open(alloc, 1 << 20)?;
     let other = held(crossed_signals(signals))?;
     let mut maps = Vec::new(alloc);
-    add_watching(alloc, &mut purse, &mut maps, 1, &other, sights)?;
-    add_watching(alloc, &mut purse, &mut maps, 1, signals, sights)?;
+    let second = watched(alloc, &mut purse, &other, sights)?;
+    held(maps.push(second))?;
+    let first = watched(alloc, &mut purse, signals, sights)?;
+    held(maps.push(first))?;
     Ok(maps)
 }

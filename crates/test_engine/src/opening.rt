@@ -8,7 +8,7 @@ ghost use Rattle.sw_spine.specs.Table.{is_numbered};
 use crate::running::{Trial, cleared, numbered};
 use std::alloc::Global;
 use std::sync::Wait;
-use sw_engine::{Blank, Engine, Naming, Ticket, deal};
+use sw_engine::{Engine, Naming, deal};
 use sw_lang::{Cuts, parse_cuts};
 use sw_map::CrackerMap;
 use sw_rows::{PackedRows, Refusal, Schema};
@@ -46,12 +46,14 @@ impl Table {
     }
 }
 
-/// Boxes for an engine: those that are dealt out to all heads, those of the first head, and those of the second.
+/// Boxes for an engine: those that are dealt out to all heads, those of the first head, those of the second, and those that come and
+/// go later.
 #[derive(Drop)]
 pub(crate) struct Boxes<M: CrackerMap> {
     dealt: Vec<M>,
     first: Vec<M>,
     second: Vec<M>,
+    pub later: Vec<M>,
 }
 
 impl<M: CrackerMap> Boxes<M> {
@@ -61,6 +63,7 @@ impl<M: CrackerMap> Boxes<M> {
             dealt: maps,
             first: Vec::new(alloc),
             second: Vec::new(alloc),
+            later: Vec::new(alloc),
         }
     }
 
@@ -70,6 +73,7 @@ impl<M: CrackerMap> Boxes<M> {
             dealt: Vec::new(alloc),
             first,
             second,
+            later: Vec::new(alloc),
         }
     }
 }
@@ -93,13 +97,13 @@ fn hand<J: Naming, M: CrackerMap, R: Wait>(
     Ok(())
 }
 
-/// Gives an engine its boxes, made blank. `Input` where it has fewer than two heads.
+/// Gives an engine its boxes, made blank, and answers those that come and go later. `Input` where it has fewer than two heads.
 pub(crate) fn supply<J: Naming, M: CrackerMap, R: Wait>(
     rt: &R,
     alloc: Global,
     engine: &Engine<J, M>,
     boxes: Boxes<M>,
-) -> Result<(), Refusal>
+) -> Result<Vec<M>, Refusal>
     ensures { IfOk result (λ _. 1 < length J.columns) }
 {
     let columns = engine.heads();
@@ -110,36 +114,10 @@ pub(crate) fn supply<J: Naming, M: CrackerMap, R: Wait>(
         dealt,
         first,
         second,
+        later,
     } = boxes;
     deal(rt, engine, columns, cleared(alloc, dealt)?)?;
     hand(rt, engine, 0, first)?;
-    hand(rt, engine, 1, second)
-}
-
-/// Opens an engine for so many sessions, and gives it its boxes. `Input` where it has fewer than two heads.
-pub(crate) fn opened<J: Naming, M: CrackerMap, R: Wait>(
-    rt: &R,
-    alloc: Global,
-    books: Blank,
-    table: Table,
-    boxes: Boxes<M>,
-    sessions: usize,
-) -> Result<(Engine<J, M>, Vec<Ticket<J>>), Refusal>
-    requires books { (books.sessions.name ≡ J.sessions) × (books.heads.name ≡ J.heads) × (books.most ≡ J.most) }
-    requires list { books.list.seen.book ≡ J.book }
-    requires table { (table.schema ≡ J.columns) × (table.rows.items ≡ J.opening) × (table.limit ≡ J.limit) }
-    ensures { IfOk result (λ _. 1 < length J.columns) }
-{
-    let Table {
-        schema,
-        rows,
-        cuts,
-        limit,
-        ..
-    } = table;
-    let (engine, tickets) = Engine::<J, M>::open_for(
-        alloc, books, schema, rows, cuts, limit, sessions,
-    )?;
-    supply(rt, alloc, &engine, boxes)?;
-    Ok((engine, tickets))
+    hand(rt, engine, 1, second)?;
+    Ok(later)
 }

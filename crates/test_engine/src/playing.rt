@@ -8,7 +8,7 @@ ghost use Rattle.sw_spine.specs.History.{CallsBelow, IsLegal};
 
 use crate::beginnings::Seen;
 use crate::boxes::{Signals, TURNS};
-use crate::opening::{Boxes, Table, opened};
+use crate::opening::{Boxes, Table, supply};
 use crate::running::Trial;
 use crate::told::held;
 use std::alloc::{AllocError, Global};
@@ -36,6 +36,14 @@ pub(crate) struct Plan {
     pub query: Query,
     pub turns: usize,
     pub signals: Signals,
+}
+
+/// What is played on an engine: the boxes that it is given, the calls of each session, and the plan.
+#[derive(Drop)]
+pub(crate) struct Stage<'a, M: CrackerMap> {
+    pub boxes: Boxes<M>,
+    pub blocks: &'a [Vec<Call>],
+    pub plan: Plan,
 }
 
 /// How many calls were refused, and whether all was answered in the end, and in time.
@@ -149,26 +157,27 @@ fn insist<J: Naming, M: CrackerMap, R: Threads + Wait + Sync>(
     tally.answered = false;
 }
 
-/// Makes a session's calls, behind the wait where there is one, and then tells that it has ended.
+/// Makes a session's calls, behind the wait where there is one, and then tells that it has ended. Answers how it went.
 fn call_all<J: Naming, M: CrackerMap, R: Threads + Wait + Sync>(
     rt: &R,
     board: &Board<J>,
     session: &mut Session<'_, J, M>,
     calls: &[Call],
     waits: bool,
-    tally: &mut Tally,
-)
+) -> Tally
     requires { All (λ c. CallsBelow (length J.columns) c) calls.now }
 {
-    if waits && !Gate::wait_for(&board.plan.signals.begun, TURNS) {
-        tally.answered = false;
-    }
+    let mut tally = Tally {
+        refused: 0,
+        answered: !waits || Gate::wait_for(&board.plan.signals.begun, TURNS),
+    };
     for call in calls {
-        insist(rt, board, session, call, tally);
+        insist(rt, board, session, call, &mut tally);
     }
     if waits {
         board.plan.signals.answered.store(true, Ordering::SeqCst);
     }
+    tally
 }
 
 /// A viewer looks once. Whether it was answered a count or a sum, and there was memory to keep it.
@@ -241,7 +250,7 @@ fn take_side<J: Naming, M: CrackerMap, R: Threads + Wait + Sync>(
     let mut ticket = None;
     if let Some(session) = session {
         let mut session = session;
-        call_all(rt, board, &mut session, calls, waits, &mut tally);
+        tally = call_all(rt, board, &mut session, calls, waits);
         ticket = Some(session.end());
     }
     Came {
@@ -359,7 +368,15 @@ struct Sorted<J: Naming> {
 }
 
 /// Sorts what came.
-fn sort_all<J: Naming>(came: Vec<Came<J>>, sorted: &mut Sorted<J>) -> Result<(), AllocError> {
+fn sort_all<J: Naming>(alloc: Global, came: Vec<Came<J>>) -> Result<Sorted<J>, AllocError> {
+    let mut sorted = Sorted {
+        tickets: Vec::new(alloc),
+        seen: Vec::new(alloc),
+        tally: Tally {
+            refused: 0,
+            answered: true,
+        },
+    };
     for one in came {
         let Came {
             ticket,
@@ -373,7 +390,7 @@ fn sort_all<J: Naming>(came: Vec<Came<J>>, sorted: &mut Sorted<J>) -> Result<(),
             None => sorted.seen.push(seen)?,
         }
     }
-    Ok(())
+    Ok(sorted)
 }
 
 /// Ends the engine.
@@ -399,73 +416,64 @@ fn end<J: Naming, M: CrackerMap, R: Wait>(
     }
 }
 
-/// Takes the sides of the sessions of tickets and of viewers, and sorts what came.
+/// Gives an engine its boxes, takes the sides of the sessions of tickets and of viewers, and sorts what came.
 fn take_all<J: Naming + Send + Sync, M: CrackerMap, R: Threads + Wait + Sync>(
     rt: &R,
     alloc: Global,
     engine: &Engine<J, M>,
     tickets: Vec<Ticket<J>>,
-    blocks: &[Vec<Call>],
-    later: &mut Vec<M>,
-    plan: Plan,
-    sorted: &mut Sorted<J>,
-) -> Result<(), Refusal>
-    requires place { 1 < length J.columns }
-    requires asks { AsksBelow 8 plan.query }
-    requires below { All (λ b. All (λ c. CallsBelow (length J.columns) c) b.items) blocks.now }
+    stage: Stage<'_, M>,
+) -> Result<Sorted<J>, Refusal>
+    requires asks { AsksBelow 8 stage.plan.query }
+    requires below { All (λ b. All (λ c. CallsBelow (length J.columns) c) b.items) stage.blocks.now }
 {
+    let Stage {
+        boxes,
+        blocks,
+        plan,
+    } = stage;
+    let mut later = supply(rt, alloc, engine, boxes)?;
     let board = Board {
         last: Mutex::new(None),
         posted: AtomicBool::new(false),
         looked: AtomicBool::new(false),
         plan,
     };
-    let mut sides = session_sides(alloc, engine, tickets, blocks, later)?;
+    let mut sides = session_sides(alloc, engine, tickets, blocks, &mut later)?;
     add_viewers(rt, alloc, engine, &mut sides, board.plan.viewers)?;
     match take_sides(rt, engine, &board, sides) {
-        Ok(came) => held(sort_all(came, sorted)),
+        Ok(came) => held(sort_all(alloc, came)),
         Err(_) => Err(Refusal::NoMemory),
     }
 }
 
-/// Opens an engine for a session of each block, takes the sides, and ends the engine.
+/// Opens an engine for a session of each block, plays what is on the stage, and ends the engine.
 fn play_on<J: Naming + Send + Sync, M: CrackerMap, R: Threads + Wait + Sync>(
     rt: &R,
     alloc: Global,
     books: Blank,
     table: Table,
-    boxes: Boxes<M>,
-    blocks: &[Vec<Call>],
-    later: &mut Vec<M>,
-    plan: Plan,
+    stage: Stage<'_, M>,
 ) -> Result<Played, Refusal>
     requires books { (books.sessions.name ≡ J.sessions) × (books.heads.name ≡ J.heads) × (books.most ≡ J.most) }
     requires list { books.list.seen.book ≡ J.book }
     requires table { (table.schema ≡ J.columns) × (table.rows.items ≡ J.opening) × (table.limit ≡ J.limit) }
-    requires below { All (λ b. All (λ c. CallsBelow (length J.columns) c) b.items) blocks.now }
-    requires asks { AsksBelow 8 plan.query }
+    requires below { All (λ b. All (λ c. CallsBelow (length J.columns) c) b.items) stage.blocks.now }
+    requires asks { AsksBelow 8 stage.plan.query }
     ensures { IfOk result (λ p. IsLegal p.record) }
 {
-    let mut sorted = Sorted {
-        tickets: Vec::new(alloc),
-        seen: Vec::new(alloc),
-        tally: Tally {
-            refused: 0,
-            answered: true,
-        },
-    };
-    let many = blocks.len();
-    let (engine, tickets) = opened::<J, M, R>(rt, alloc, books, table, boxes, many)?;
-    take_all(
-        rt,
-        alloc,
-        &engine,
-        tickets,
-        blocks,
-        later,
-        plan,
-        &mut sorted,
+    let Table {
+        schema,
+        rows,
+        cuts,
+        limit,
+        ..
+    } = table;
+    let sessions = stage.blocks.len();
+    let (engine, tickets) = Engine::<J, M>::open_for(
+        alloc, books, schema, rows, cuts, limit, sessions,
     )?;
+    let sorted = take_all(rt, alloc, &engine, tickets, stage)?;
     end(rt, engine, sorted)
 }
 
@@ -475,22 +483,19 @@ fn play_picked<J: Naming + Send + Sync, M: CrackerMap, R: Threads + Wait + Sync>
     alloc: Global,
     books: Blank,
     table: Table,
-    boxes: Boxes<M>,
-    blocks: &[Vec<Call>],
-    later: &mut Vec<M>,
-    plan: Plan,
+    stage: Stage<'_, M>,
 ) -> Result<Played, Refusal>
     requires books { (books.sessions.name ≡ J.sessions) × (books.heads.name ≡ J.heads) × (books.most ≡ J.most) }
     requires list { books.list.seen.book ≡ J.book }
     requires table { (table.schema ≡ J.columns) × (table.rows.items ≡ J.opening) × (table.limit ≡ J.limit) }
-    requires below { All (λ b. All (λ c. CallsBelow (length J.columns) c) b.items) blocks.now }
-    requires asks { AsksBelow 8 plan.query }
+    requires below { All (λ b. All (λ c. CallsBelow (length J.columns) c) b.items) stage.blocks.now }
+    requires asks { AsksBelow 8 stage.plan.query }
     ensures { IfOk result (λ p. IsLegal p.record) }
 {
-    play_on::<J, M, R>(rt, alloc, books, table, boxes, blocks, later, plan)
+    play_on::<J, M, R>(rt, alloc, books, table, stage)
 }
 
-/// Opens an engine over the table and gives it the boxes. Each block's calls are made by a session on a thread of its own, and viewers
+/// Opens an engine over the table and gives it its boxes. Each block's calls are made by a session on a thread of its own, and viewers
 /// look from theirs. The second session and the viewers wait until `begun` is set, and who of them ends sets `answered`; the third
 /// session's thread gives the later boxes, made blank, to the second head, and takes boxes back.
 pub(crate) fn play<M: CrackerMap, R: Threads + Wait + Sync>(
@@ -498,18 +503,15 @@ pub(crate) fn play<M: CrackerMap, R: Threads + Wait + Sync>(
     alloc: Global,
     trial: Trial<'_>,
     schema: Schema,
-    boxes: Boxes<M>,
-    blocks: &[Vec<Call>],
-    later: &mut Vec<M>,
-    plan: Plan,
+    stage: Stage<'_, M>,
 ) -> Result<Played, Refusal>
     requires few { length trial.rows.now ≤ MOST_ROWS }
     requires some { 0 < trial.limit }
     requires most { trial.limit ≤ MOST_ROWS }
-    requires below { All (λ b. All (λ c. CallsBelow (length schema) c) b.items) blocks.now }
-    requires asks { AsksBelow 8 plan.query }
+    requires below { All (λ b. All (λ c. CallsBelow (length schema) c) b.items) stage.blocks.now }
+    requires asks { AsksBelow 8 stage.plan.query }
     ensures { IfOk result (λ p. IsLegal p.record) }
 {
     let table = Table::of(alloc, trial, schema)?;
-    play_picked::<Brand, M, R>(rt, alloc, Blank::new(), table, boxes, blocks, later, plan)
+    play_picked::<Brand, M, R>(rt, alloc, Blank::new(), table, stage)
 }

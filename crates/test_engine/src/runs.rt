@@ -2,7 +2,7 @@
 
 use crate::boxes::{Sights, Signals, Watching, crossed, watching};
 use crate::running::cleared;
-use crate::told::{held, tell_file};
+use crate::told::{Telling, held, tell_file};
 use std::alloc::{AllocError, Global};
 use std::sync::Wait;
 use std::sync::atomic::Ordering;
@@ -39,12 +39,10 @@ fn add_lines(text: &mut String, bytes: &[u8]) -> Result<(), AllocError> {
 
 /// Tells what a run with threads writes over maps, which are made blank and dealt out from the last, and answers its record.
 fn tell_run<R: Threads + Wait + Sync>(
-    rt: &R,
-    alloc: Global,
+    telling: &mut Telling<'_, R>,
     script: &[u8],
     cuts: &str,
     maps: Vec<Watching>,
-    text: &mut String,
 ) -> Result<Record, Refusal> {
     let options = Options {
         limit: 1000,
@@ -52,30 +50,30 @@ fn tell_run<R: Threads + Wait + Sync>(
         threads: true,
         key: TextKey::fixed(),
     };
+    let (rt, alloc) = (telling.rt, telling.alloc);
     let maps = cleared(alloc, maps)?;
     let mut out = Counted::new(Vec::new(alloc));
     let mut table = Counted::new(SCHEMA_AND_ROWS);
     let mut script = Counted::new(script);
     let record = run_with(rt, alloc, &mut table, &mut script, &mut out, &options, maps)?;
-    held(add_lines(text, out.inner.as_slice()))?;
+    held(add_lines(telling.text, out.inner.as_slice()))?;
     Ok(record)
 }
 
 /// Two blocks, of which each one's map waits in its first step for that of the other. Tells what was written, the check of the
 /// record's file, and whether a wait came to its limit.
 pub(crate) fn met_in_run<R: Threads + Wait + Sync>(
-    rt: &R,
-    alloc: Global,
-    text: &mut String,
+    telling: &mut Telling<'_, R>,
 ) -> Result<(), Refusal> {
+    let alloc = telling.alloc;
     let sights = held(Sights::new(alloc, 0))?;
     let signals = held(Signals::new(alloc, false))?;
     let maps = crossed(alloc, &signals, &sights)?;
     let script = b"count where a >= 10\n---\ncount where b >= 6\n";
-    let record = tell_run(rt, alloc, script.as_slice(), "", maps, text)?;
-    tell_file(alloc, text, &record)?;
+    let record = tell_run(telling, script.as_slice(), "", maps)?;
+    tell_file(alloc, telling.text, &record)?;
     if sights.overran.load(Ordering::SeqCst) {
-        return held(text.push_str("late"));
+        return held(telling.text.push_str("late"));
     }
     Ok(())
 }
@@ -83,10 +81,9 @@ pub(crate) fn met_in_run<R: Threads + Wait + Sync>(
 /// Two blocks that make one select again and again in a head that they share. Tells whether two selects were ever in its map at a
 /// time, and the check of the record's file.
 pub(crate) fn shared<R: Threads + Wait + Sync>(
-    rt: &R,
-    alloc: Global,
-    text: &mut String,
+    telling: &mut Telling<'_, R>,
 ) -> Result<(), Refusal> {
+    let alloc = telling.alloc;
     let sights = held(Sights::new(alloc, PATIENCE))?;
     let maps = watching(alloc, 1, &held(Signals::new(alloc, true))?, &sights)?;
     let maps = cleared(alloc, maps)?;
@@ -107,25 +104,24 @@ pub(crate) fn shared<R: Threads + Wait + Sync>(
     let mut out = Counted::new(Vec::new(alloc));
     let mut table = Counted::new(SCHEMA_AND_ROWS);
     let mut script = Counted::new(script.as_bytes());
-    let after = run_shared(rt, means, &mut table, &mut script, &mut out)?;
+    let after = run_shared(telling.rt, means, &mut table, &mut script, &mut out)?;
     let met = sights.counts.met.load(Ordering::SeqCst);
-    held(text.push_str(if met { "met" } else { "never met" }))?;
-    tell_file(alloc, text, &after.history)
+    held(telling.text.push_str(if met { "met" } else { "never met" }))?;
+    tell_file(alloc, telling.text, &after.history)
 }
 
 /// Tells what a run writes over so many counting maps, and how often they were begun.
 pub(crate) fn begun<R: Threads + Wait + Sync>(
-    rt: &R,
-    alloc: Global,
+    telling: &mut Telling<'_, R>,
     many: usize,
     cuts: &str,
     lines: &str,
-    text: &mut String,
 ) -> Result<(), Refusal> {
+    let alloc = telling.alloc;
     let sights = held(Sights::new(alloc, 0))?;
     let maps = watching(alloc, many, &held(Signals::new(alloc, true))?, &sights)?;
     let script = held(script(alloc, lines))?;
-    let _record = tell_run(rt, alloc, script.as_slice(), cuts, maps, text)?;
+    let _record = tell_run(telling, script.as_slice(), cuts, maps)?;
     let begins = sights.counts.begins.load(Ordering::SeqCst);
-    held(write!(text, " {begins} begun"))
+    held(write!(telling.text, " {begins} begun"))
 }

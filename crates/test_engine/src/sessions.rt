@@ -9,10 +9,10 @@ use crate::asking::count_all;
 use crate::beginnings::{Beginnings, show_seen, tell_looks};
 use crate::boxes::{Refusing, Sights, Signals, refusing, watching};
 use crate::opening::Boxes;
-use crate::playing::{Plan, Played, play};
+use crate::playing::{Plan, Played, Stage, play};
 use crate::random::random_blocks;
 use crate::running::{HEADER, ROWS, TABLE, Trial, blocks};
-use crate::told::{held, tell_counts, tell_file, tell_replies, tell_right};
+use crate::told::{Telling, held, tell_counts, tell_file, tell_replies, tell_right};
 use std::alloc::Global;
 use std::sync::Wait;
 use std::sync::atomic::Ordering;
@@ -62,164 +62,146 @@ fn planned(alloc: Global, viewers: usize, sums: bool, signals: Signals) -> Plan
     }
 }
 
-/// Plays blocks. Tells whether all was answered, the record is legal, no more entries are void than calls were refused, and the other
-/// entries of each session are its calls.
+/// Plays what is on a stage. Tells whether all was answered, the record is legal, no more entries are void than calls were refused, and
+/// the other entries of each session are its calls.
 fn play_told<M: CrackerMap, R: Threads + Wait + Sync>(
-    rt: &R,
-    alloc: Global,
+    telling: &mut Telling<'_, R>,
     trial: Trial<'_>,
     schema: Schema,
-    boxes: Boxes<M>,
-    blocks: &[Vec<Call>],
-    later: &mut Vec<M>,
-    plan: Plan,
-    text: &mut String,
+    stage: Stage<'_, M>,
 ) -> Result<Played, Refusal>
     requires few { length trial.rows.now ≤ MOST_ROWS }
     requires some { 0 < trial.limit }
     requires most { trial.limit ≤ MOST_ROWS }
-    requires below { All (λ b. All (λ c. CallsBelow (length schema) c) b.items) blocks.now }
-    requires asks { AsksBelow 8 plan.query }
+    requires below { All (λ b. All (λ c. CallsBelow (length schema) c) b.items) stage.blocks.now }
+    requires asks { AsksBelow 8 stage.plan.query }
     ensures { IfOk result (λ p. IsLegal p.record) }
 {
-    let played = play(rt, alloc, trial, schema, boxes, blocks, later, plan)?;
-    held(tell_right(alloc, text, &played, blocks))?;
+    let alloc = telling.alloc;
+    let blocks = stage.blocks;
+    let played = play(telling.rt, alloc, trial, schema, stage)?;
+    held(tell_right(alloc, telling.text, &played, blocks))?;
     Ok(played)
 }
 
 /// Plays the lines of sessions over the four rows, and tells the replies to the first two as well.
 fn play_lines<M: CrackerMap, R: Threads + Wait + Sync>(
-    rt: &R,
-    alloc: Global,
+    telling: &mut Telling<'_, R>,
     cuts: &str,
     boxes: Boxes<M>,
     lines: &str,
     plan: Plan,
-    text: &mut String,
 ) -> Result<Played, Refusal>
     requires { AsksBelow 8 plan.query }
     ensures { IfOk result (λ p. IsLegal p.record) }
 {
-    let mut later = Vec::new(alloc);
+    let alloc = telling.alloc;
     let trial = Trial { cuts, ..TABLE };
     let schema = Schema::of(alloc, TextKey::fixed(), &HEADER)?;
     let blocks = blocks(alloc, &schema, lines)?;
-    let played = play_told(
-        rt,
-        alloc,
-        trial,
-        schema,
+    let stage = Stage {
         boxes,
-        blocks.as_slice(),
-        &mut later,
+        blocks: blocks.as_slice(),
         plan,
-        text,
-    )?;
-    held(tell_replies(text, &played.record))?;
+    };
+    let played = play_told(telling, trial, schema, stage)?;
+    held(tell_replies(telling.text, &played.record))?;
     Ok(played)
 }
 
 /// Sessions make the calls of lines over so many boxes, each call at most so often. Tells what they are told.
 pub(crate) fn told_of<R: Threads + Wait + Sync>(
-    rt: &R,
-    alloc: Global,
+    telling: &mut Telling<'_, R>,
     many: usize,
     turns: usize,
     cuts: &str,
     lines: &str,
-    text: &mut String,
 ) -> Result<(), Refusal> {
+    let alloc = telling.alloc;
     let boxes = Boxes::dealt(alloc, refusing(alloc, many, 1 << 20, 0)?);
     let mut plan = planned(alloc, 0, false, held(Signals::new(alloc, true))?);
     plan.turns = turns;
-    let _ = play_lines(rt, alloc, cuts, boxes, lines, plan, text)?;
+    let _ = play_lines(telling, cuts, boxes, lines, plan)?;
     Ok(())
 }
 
 /// Sessions make the calls of lines at once over so many boxes. Their replies hang on the order of their calls, so what is told
 /// besides is how many entries there are.
 pub(crate) fn raced<R: Threads + Wait + Sync>(
-    rt: &R,
-    alloc: Global,
+    telling: &mut Telling<'_, R>,
     many: usize,
     cuts: &str,
     lines: &str,
-    text: &mut String,
 ) -> Result<(), Refusal> {
-    let mut none = Vec::new(alloc);
+    let alloc = telling.alloc;
     let trial = Trial { cuts, ..TABLE };
     let schema = Schema::of(alloc, TextKey::fixed(), &HEADER)?;
     let blocks = blocks(alloc, &schema, lines)?;
     let boxes = Boxes::dealt(alloc, refusing(alloc, many, 1 << 20, 0)?);
     let plan = planned(alloc, 0, false, held(Signals::new(alloc, true))?);
-    let played = play_told(
-        rt,
-        alloc,
-        trial,
-        schema,
+    let stage = Stage {
         boxes,
-        blocks.as_slice(),
-        &mut none,
+        blocks: blocks.as_slice(),
         plan,
-        text,
-    )?;
-    held(write!(text, "; {} entries", played.record.entries.as_slice().len()))
+    };
+    let played = play_told(telling, trial, schema, stage)?;
+    held(write!(
+        telling.text,
+        "; {} entries",
+        played.record.entries.as_slice().len()
+    ))
 }
 
 /// What `told_of` does where each call is made until it is answered, and all is begun again where something else is refused.
 pub(crate) fn insisted<R: Threads + Wait + Sync>(
-    rt: &R,
-    alloc: Global,
+    telling: &mut Telling<'_, R>,
     many: usize,
     lines: &str,
-    text: &mut String,
 ) -> Result<(), Refusal> {
     for _ in 1..TURNS {
-        text.clear();
-        if told_of(rt, alloc, many, TURNS, "", lines, text).is_ok() {
+        telling.text.clear();
+        if told_of(telling, many, TURNS, "", lines).is_ok() {
             return Ok(());
         }
     }
-    text.clear();
-    told_of(rt, alloc, many, TURNS, "", lines, text)
+    telling.text.clear();
+    told_of(telling, many, TURNS, "", lines)
 }
 
 /// One session makes the calls of lines over so many boxes. Tells what it is told, and how often the maps were begun, stepped and
 /// asked.
 pub(crate) fn counted<R: Threads + Wait + Sync>(
-    rt: &R,
-    alloc: Global,
+    telling: &mut Telling<'_, R>,
     many: usize,
     lines: &str,
-    text: &mut String,
 ) -> Result<(), Refusal> {
+    let alloc = telling.alloc;
     let sights = held(Sights::new(alloc, 0))?;
     let signals = held(Signals::new(alloc, true))?;
     let boxes = Boxes::dealt(alloc, watching(alloc, many, &signals, &sights)?);
     let plan = planned(alloc, 0, false, signals);
-    let _ = play_lines(rt, alloc, "", boxes, lines, plan, text)?;
-    held(tell_counts(text, &sights.counts))
+    let _ = play_lines(telling, "", boxes, lines, plan)?;
+    held(tell_counts(telling.text, &sights.counts))
 }
 
 /// Two boxes of the first head, which wait in their first step until a call is answered. Tells the check of the record's file too.
 pub(crate) fn waited<R: Threads + Wait + Sync>(
-    rt: &R,
-    alloc: Global,
+    telling: &mut Telling<'_, R>,
     viewers: usize,
     lines: &str,
-    text: &mut String,
 ) -> Result<(), Refusal> {
+    let alloc = telling.alloc;
     let sights = held(Sights::new(alloc, 0))?;
     let signals = held(Signals::new(alloc, false))?;
     let gated = watching(alloc, 2, &signals, &sights)?;
     let free = watching(alloc, 2, &held(Signals::new(alloc, true))?, &sights)?;
     let boxes = Boxes::at(alloc, gated, free);
     let plan = planned(alloc, viewers, false, signals);
-    let played = play_lines(rt, alloc, "", boxes, lines, plan, text)?;
-    held(show_seen(text, played.seen.as_slice()))?;
-    tell_file(alloc, text, &played.record)?;
+    let played = play_lines(telling, "", boxes, lines, plan)?;
+    held(show_seen(telling.text, played.seen.as_slice()))?;
+    tell_file(alloc, telling.text, &played.record)?;
     if sights.overran.load(Ordering::SeqCst) {
-        return held(text.push_str("; late"));
+        return held(telling.text.push_str("; late"));
     }
     Ok(())
 }
@@ -235,14 +217,11 @@ struct Chance {
 
 /// Sessions make random calls at once.
 fn play_random<R: Threads + Wait + Sync>(
-    rt: &R,
-    alloc: Global,
+    telling: &mut Telling<'_, R>,
     trial: Trial<'_>,
     chance: Chance,
     boxes: Boxes<Refusing>,
-    later: &mut Vec<Refusing>,
     plan: Plan,
-    text: &mut String,
 ) -> Result<Played, Refusal>
     requires few { length trial.rows.now ≤ MOST_ROWS }
     requires some { 0 < trial.limit }
@@ -255,34 +234,29 @@ fn play_random<R: Threads + Wait + Sync>(
         sessions,
         state,
     } = chance;
+    let alloc = telling.alloc;
     let schema = Schema::of(
         alloc,
         TextKey::fixed(),
         &EIGHT[..attributes.min(8) as usize],
     )?;
     let blocks = random_blocks(alloc, &schema, state, attributes, sessions)?;
-    play_told(
-        rt,
-        alloc,
-        trial,
-        schema,
+    let stage = Stage {
         boxes,
-        blocks.as_slice(),
-        later,
+        blocks: blocks.as_slice(),
         plan,
-        text,
-    )
+    };
+    play_told(telling, trial, schema, stage)
 }
 
 /// How many attributes, the limit of rows, the boxes, the cells of the budget, and which step of a map is refused. Four sessions
 /// make random calls at once.
 pub(crate) fn mixed<R: Threads + Wait + Sync>(
-    rt: &R,
-    alloc: Global,
+    telling: &mut Telling<'_, R>,
     mix: [u64; 5],
     cuts: &str,
-    text: &mut String,
 ) -> Result<(), Refusal> {
+    let alloc = telling.alloc;
     let [attributes, limit, many, cells, every] = mix;
     let trial = Trial {
         rows: &ROWS,
@@ -294,22 +268,20 @@ pub(crate) fn mixed<R: Threads + Wait + Sync>(
         sessions: 4,
         state: limit ^ (cells << 8) ^ (every << 40) | 1,
     };
-    let mut none = Vec::new(alloc);
     let boxes = Boxes::dealt(alloc, refusing(alloc, many as usize, cells, every)?);
     let plan = planned(alloc, 0, false, held(Signals::new(alloc, true))?);
-    let _ = play_random(rt, alloc, trial, chance, boxes, &mut none, plan, text)?;
+    let _ = play_random(telling, trial, chance, boxes, plan)?;
     Ok(())
 }
 
 /// Two sessions make random calls at once, while boxes come and go on a third thread.
 pub(crate) fn among<R: Threads + Wait + Sync>(
-    rt: &R,
-    alloc: Global,
+    telling: &mut Telling<'_, R>,
     cells: u64,
     every: u64,
     cuts: &str,
-    text: &mut String,
 ) -> Result<(), Refusal> {
+    let alloc = telling.alloc;
     let trial = Trial {
         rows: &ROWS,
         cuts,
@@ -321,19 +293,18 @@ pub(crate) fn among<R: Threads + Wait + Sync>(
         state: cells | 1,
     };
     let first = refusing(alloc, 4, cells, every)?;
-    let boxes = Boxes::at(alloc, first, refusing(alloc, 4, cells, every)?);
-    let mut later = refusing(alloc, 200, cells, every)?;
+    let mut boxes = Boxes::at(alloc, first, refusing(alloc, 4, cells, every)?);
+    boxes.later = refusing(alloc, 200, cells, every)?;
     let plan = planned(alloc, 0, false, held(Signals::new(alloc, true))?);
-    let _ = play_random(rt, alloc, trial, chance, boxes, &mut later, plan, text)?;
+    let _ = play_random(telling, trial, chance, boxes, plan)?;
     Ok(())
 }
 
 /// Sixteen viewers look twenty times each while four sessions make random calls, each on a thread of its own. Tells what they saw.
 pub(crate) fn crowded<R: Threads + Wait + Sync>(
-    rt: &R,
-    alloc: Global,
-    text: &mut String,
+    telling: &mut Telling<'_, R>,
 ) -> Result<(), Refusal> {
+    let alloc = telling.alloc;
     let trial = Trial {
         limit: 200,
         ..TABLE
@@ -343,10 +314,9 @@ pub(crate) fn crowded<R: Threads + Wait + Sync>(
         sessions: 4,
         state: 77,
     };
-    let mut none = Vec::new(alloc);
     let boxes = Boxes::dealt(alloc, Vec::new(alloc));
     let plan = planned(alloc, 16, true, held(Signals::new(alloc, true))?);
-    let played = play_random(rt, alloc, trial, chance, boxes, &mut none, plan, text)?;
+    let played = play_random(telling, trial, chance, boxes, plan)?;
     let beginnings = held(Beginnings::of(alloc, &ROWS, &played.record))?;
-    held(tell_looks(text, played.seen.as_slice(), &beginnings))
+    held(tell_looks(telling.text, played.seen.as_slice(), &beginnings))
 }

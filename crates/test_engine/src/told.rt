@@ -2,11 +2,20 @@
 
 use crate::playing::Played;
 use std::alloc::{AllocError, Global};
+use std::sync::Wait;
 use std::sync::atomic::Ordering;
 use sw_cli::{check_file, write_record};
 use sw_rows::{Call, Counted, Refusal, Reply, ReplyRows, TextKey};
 use sw_spine::{Record, StateRef};
 use test_maps::Counts;
+
+/// What a trial is made with, threads and memory, and the text in which it tells what came of it.
+#[derive(Drop)]
+pub(crate) struct Telling<'t, R: Wait> {
+    pub rt: &'t R,
+    pub alloc: Global,
+    pub text: &'t mut String,
+}
 
 /// What was made, or the refusal that there is no memory.
 pub(crate) fn held<T, E: Drop>(made: Result<T, E>) -> Result<T, Refusal> {
