@@ -130,17 +130,17 @@ fn write_joiner<W: Sink>(started: bool, out: &mut W) -> Result<(), Refusal>
     write_all(out, if started { b" and " } else { b" where " })
 }
 
-/// A comparison, by an operator with its spaces and a value, after its joiner.
+/// A comparison after its joiner.
 fn write_term<W: Sink>(
     schema: &Schema,
     started: bool,
     attr: usize,
-    by: (&[u8], &i64),
+    op: &[u8],
+    value: &i64,
     out: &mut W,
 ) -> Result<(), Refusal>
-    ensures { Wrote W.taken W.failed out.old out.new result (term_text started schema.now attr by.entry.0.now by.entry.1.now) }
+    ensures { Wrote W.taken W.failed out.old out.new result (term_text started schema.now attr op.now value.now) }
 {
-    let (op, value) = by;
     write_joiner(started, out)?;
     write_comparison(schema, attr, op, value, out)
 }
@@ -154,8 +154,8 @@ fn write_lower<W: Sink>(
     ensures { Wrote W.taken W.failed out.old out.new result (lower_text started schema.now cond.now) }
 {
     match &cond.lower {
-        Some(Bound::Before(value)) => write_term(schema, started, cond.attr, (b" >= ", value), out),
-        Some(Bound::After(value)) => write_term(schema, started, cond.attr, (b" > ", value), out),
+        Some(Bound::Before(value)) => write_term(schema, started, cond.attr, b" >= ", value, out),
+        Some(Bound::After(value)) => write_term(schema, started, cond.attr, b" > ", value, out),
         None => Ok(()),
     }
 }
@@ -169,8 +169,8 @@ fn write_upper<W: Sink>(
     ensures { Wrote W.taken W.failed out.old out.new result (upper_text started schema.now cond.now) }
 {
     match &cond.upper {
-        Some(Bound::Before(value)) => write_term(schema, started, cond.attr, (b" < ", value), out),
-        Some(Bound::After(value)) => write_term(schema, started, cond.attr, (b" <= ", value), out),
+        Some(Bound::Before(value)) => write_term(schema, started, cond.attr, b" < ", value, out),
+        Some(Bound::After(value)) => write_term(schema, started, cond.attr, b" <= ", value, out),
         None => Ok(()),
     }
 }
@@ -193,11 +193,11 @@ fn write_equal<W: Sink>(
     ensures { Wrote W.taken W.failed out.old out.new result (equal_text started schema.now attr texts.entry) }
 {
     let (lower, upper) = texts;
-    write_term(schema, started, attr, (b" = ", lower), out)?;
+    write_term(schema, started, attr, b" = ", lower, out)?;
     if lower == upper {
         return Ok(());
     }
-    write_term(schema, true, attr, (b" = ", upper), out)
+    write_term(schema, true, attr, b" = ", upper, out)
 }
 
 /// The comparisons of bounds.
