@@ -104,6 +104,7 @@ case_of 'stats change no output' 0 4 'head queries areas pieces entries restarts
 case_of 'the milliseconds are those of the head that scanned' 0 "$(printf 'a 1\nb 0')" '' timed_heads
 case_of 'ranges asked once' 0 "$(printf 'head queries areas pieces entries restarts maps cells scans\na 2 1 3 2 0 2 128 0\nb 1 1 2 2 0 1 64 0\nc 0 0 0 0 0 0 0 0')" '' stats once.txt
 case_of 'ranges asked twice' 0 "$(printf 'head queries areas pieces entries restarts maps cells scans\na 4 1 3 2 0 2 128 0\nb 2 1 2 2 0 1 64 0\nc 0 0 0 0 0 0 0 0')" '' stats twice.txt
+case_of 'ranges asked twice of heads that may be shared' 0 "$(printf 'head queries areas pieces entries restarts maps cells scans\na 4 1 3 2 0 2 128 0\nb 2 1 2 2 0 1 64 0\nc 0 0 0 0 0 0 0 0')" '' stats twice.txt --threads
 case_of 'ranges without maps' 0 "$(printf 'head queries areas pieces entries restarts maps cells scans\na 4 1 1 1 0 0 0 4\nb 2 1 1 1 0 0 0 2\nc 0 0 0 0 0 0 0 0')" '' stats twice.txt --maps 0
 seq 0 100 | sed '1s/.*/a/' >hundred.csv
 printf 'count where a <= 50\ndelete where a <= 70\ncount\n' >seventy.txt
