@@ -31,6 +31,7 @@ step python3 "$top/tests/rules.py"
 step python3 "$top/tests/links.py"
 step python3 "$top/tests/lemmas.py"
 step python3 "$top/tests/clauses.py"
+step python3 "$top/tests/unused.py"
 step python3 "$top/tests/drivers.py"
 step python3 "$top/tests/by_tests.py" --texts
 step bash "$top/bench/build.sh"

@@ -1,6 +1,5 @@
 //! Texts that become known while an engine is open.
 
-ghost use Rattle.std.specs.Prelude.{◌≡◌};
 ghost use Rattle.sideways_c.specs.Handles.{seen};
 ghost use Rattle.sideways_c.specs.Learns.{Learns, LearnsHandle, LearnsIn};
 

@@ -1,6 +1,6 @@
 //! Lines that are executed, and the text that was kept last.
 
-ghost use Rattle.std.specs.Prelude.{◌≡◌, ◌<◌, ◌≤◌, drop, length, true, IfOk, IfSome, OnErr, OnOk, Some, min};
+ghost use Rattle.std.specs.Prelude.{◌≡◌, ◌<◌, ◌≤◌, drop, length, true, IfOk, IfSome, OnErr, OnOk};
 ghost use Rattle.sw_arrays.specs.Blocks.{filled, many_in};
 ghost use Rattle.sw_lang.specs.Reading.{Answers};
 ghost use Rattle.sw_lang.specs.Replies.{reply_bytes};

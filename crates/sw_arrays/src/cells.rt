@@ -1,6 +1,6 @@
 //! Cells as they are given.
 
-ghost use Rattle.std.specs.Prelude.{◌≡◌, ◌≤◌, [], length};
+ghost use Rattle.std.specs.Prelude.{◌≡◌};
 ghost use Rattle.sw_lang.specs.Replies.{kind_at};
 ghost use Rattle.sw_arrays.specs.Asked.{are_cells, is_cell, row_in};
 

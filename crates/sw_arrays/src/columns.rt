@@ -1,7 +1,6 @@
 //! Columns of cells as they are given.
 
-ghost use Rattle.std.specs.Prelude.{◌≡◌, ◌≤◌, ◌*◌, ◌+◌, ◌++◌, ◌<◌, ◌^◌, ℕ, List, length, map, pos, slice_get, slice_index_or, unwrap_or, vec_len, true, All, IfOk};
-ghost use Rattle.sw_rows.specs.Tables.{padded};
+ghost use Rattle.std.specs.Prelude.{◌≡◌, ◌≤◌, ◌+◌, ◌++◌, length, pos, unwrap_or, vec_len, true, All, IfOk};
 ghost use Rattle.sw_rows.specs.declared.table.TheConstants.{MOST_ROWS};
 ghost use Rattle.sw_table.specs.Packed.{HasRoomFor, IsSameRoom};
 ghost use Rattle.sw_lang.specs.Replies.{kind_at};

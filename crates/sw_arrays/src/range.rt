@@ -1,6 +1,6 @@
 //! Conditions as they are given.
 
-ghost use Rattle.std.specs.Prelude.{◌≡◌, [], IfOk};
+ghost use Rattle.std.specs.Prelude.{◌≡◌, []};
 ghost use Rattle.sw_rows.specs.Domains.{is_of_texts};
 ghost use Rattle.sw_lang.specs.Replies.{kind_at};
 ghost use Rattle.sw_arrays.specs.Asked.{Answers, bound_of, cond_after, cond_in, conds_after, is_bound_on, is_held, is_one_text, is_range};

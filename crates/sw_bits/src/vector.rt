@@ -1,6 +1,6 @@
 //! The bit vector.
 
-ghost use Rattle.std.specs.Prelude.{◌≡◌, ℕ, ◌+◌, ◌-◌, ◌^◌, ◌<◌, ◌≤◌, ◌&&◌, [], ◌∷◌, ◌++◌, List, length, replicate, count_by, true, false, slice_index_or, slice_set, MatchResult};
+ghost use Rattle.std.specs.Prelude.{◌≡◌, ◌+◌, ◌-◌, ◌^◌, ◌<◌, ◌&&◌, [], ◌∷◌, ◌++◌, List, length, replicate, count_by, true, false, slice_index_or, slice_set, MatchResult};
 ghost use Rattle.sw_query.specs.declared.refusal.Refusal.TheVariants.{NoMemory};
 ghost use Rattle.sw_bits.specs.Places.{AreOnes};
 

@@ -1,5 +1,5 @@
 -- Maps cleared, one after the other.
-use Rattle.std.proofs.Common.{◌≡◌, ◌≢◌, ◌<◌, ◌≤◌, ◌+◌, ◌⊎◌, inl, inr, nat_eq, ℕ, zero, suc, Bool, true, false, true≢false, cond, List, [], ◌∷◌, length, get_or, min, slice_index_or, slice_set, refl, sym, ap, ◌∙◌, arith, subst, All, Any}
+use Rattle.std.proofs.Common.{◌≡◌, ◌≢◌, ◌<◌, ◌≤◌, ◌+◌, ◌⊎◌, inl, inr, nat_eq, ℕ, zero, suc, Bool, true, false, true≢false, List, [], ◌∷◌, length, get_or, min, slice_set, refl, sym, ap, ◌∙◌, arith, subst}
 use Rattle.std.specs.List.{sum_by}
 use Rattle.std.proofs.lemmas.Bool.Decides.{nat_tests}
 use Rattle.std.proofs.lemmas.List.Sums.{sum_by-cons}

@@ -1,7 +1,6 @@
 -- Replies over areas stay within the bits of a reply when they are joined.
-use Rattle.std.proofs.Common.{◌≡◌, ◌<◌, ◌≤◌, ◌+◌, ◌*◌, ◌^◌, ◌+ℤ◌, ◌≤ℤ◌, neg_ℤ, ℕ, zero, suc, ℤ, pos, negsuc, Bool, true, false, ◌&&◌, ◌||◌, List, [], ◌∷◌, ◌++◌, length, map, filter, fold, drop, get_or, refl, sym, ap, ◌∙◌, arith, cond, subst, FitsSigned, All, Option, None, Some}
+use Rattle.std.proofs.Common.{◌≡◌, ◌<◌, ◌≤◌, ◌+◌, ◌*◌, ◌^◌, ◌+ℤ◌, ◌≤ℤ◌, neg_ℤ, ℕ, suc, ℤ, pos, negsuc, Bool, true, false, ◌&&◌, ◌||◌, List, [], ◌∷◌, ◌++◌, length, map, filter, fold, drop, get_or, refl, sym, ap, ◌∙◌, arith, cond, subst, FitsSigned, All, Option, None, Some}
 use Rattle.std.specs.Int.{w128}
-use Rattle.std.specs.List.{AllByRecursion}
 use Rattle.std.proofs.lemmas.Int.{ints}
 use Rattle.std.proofs.lemmas.List.Elements.{All-from_recursion, All-append}
 use Rattle.sw_table.specs.declared.row.Row.{Row}
@@ -20,7 +19,7 @@ use Rattle.sw_set.specs.Shelf.{AreaState, Rises, came_then, key_of, lies_within,
 use Rattle.sw_set.proofs.Replying.KeyOrder.{rises-filter}
 use Rattle.sw_set.proofs.Areas.Longer.{all-without}
 use Rattle.sw_set.proofs.Areas.Receiving.{all-left, all-one, all-right}
-use Rattle.sw_chunks.specs.Cuts.{Interval, RiseAbove, intervals, intervals_from}
+use Rattle.sw_chunks.specs.Cuts.{Interval, RiseAbove, intervals_from}
 use Rattle.sw_chunks.specs.Heads.{AreAreasOf, IsCell, RowFits, StandsFor, interval_of, meets_interval, part_of}
 use Rattle.sw_chunks.specs.Asked.{AreaFits, AreasFit, with_area}
 use Rattle.sw_chunks.specs.Joined.{JoinFits, joined}

@@ -1,5 +1,5 @@
 -- What a head keeps of the areas of its rows: nothing without cuts.
-use Rattle.std.proofs.Common.{◌≡◌, ◌≢◌, ◌++◌, ◌<◌, ◌==◌, cond, Bool, true, false, ℕ, ℤ, List, [], ◌∷◌, fold, map, length, take, refl, sym, ap, ap₂, ◌∙◌, subst, arith}
+use Rattle.std.proofs.Common.{◌≡◌, ◌≢◌, ◌==◌, cond, Bool, true, false, ℕ, ℤ, List, [], ◌∷◌, fold, map, length, take, refl, sym, ap, ◌∙◌, arith}
 use Rattle.std.proofs.lemmas.List.{take_all}
 use Rattle.sw_table.specs.declared.row.Row.{Row}
 use Rattle.sw_table.specs.declared.row.Update.{Update}

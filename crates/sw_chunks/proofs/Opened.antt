@@ -1,5 +1,5 @@
 -- A head opened with rows is lawful.
-use Rattle.std.proofs.Common.{◌≡◌, ◌<◌, ◌≤◌, ◌++◌, ◌^◌, ℕ, ℤ, zero, suc, List, [], ◌∷◌, fold, map, length, get_or, refl, sym, ap, ap₂, ◌∙◌, arith, subst, All, None}
+use Rattle.std.proofs.Common.{◌≡◌, ◌<◌, ◌≤◌, ◌++◌, ◌^◌, ℕ, ℤ, zero, suc, List, [], ◌∷◌, fold, map, length, refl, sym, ap, ◌∙◌, arith, subst, All, None}
 use Rattle.std.proofs.lemmas.List.{append_assoc, append-nil}
 use Rattle.sw_table.specs.declared.row.Row.{Row}
 use Rattle.sw_table.specs.declared.row.Update.{Update}

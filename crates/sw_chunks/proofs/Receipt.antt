@@ -1,5 +1,5 @@
 -- A head receives updates.
-use Rattle.std.proofs.Common.{◌≡◌, ◌<◌, ◌≤◌, ◌+◌, ◌++◌, ◌^◌, ℕ, ℤ, zero, suc, Bool, List, [], ◌∷◌, filter, fold, map, length, get_or, take, refl, sym, ap, ◌∙◌, arith, subst, All, Option, None, ◌⊎◌, inl, inr}
+use Rattle.std.proofs.Common.{◌≡◌, ◌<◌, ◌+◌, ◌++◌, ℕ, ℤ, zero, suc, List, [], ◌∷◌, filter, fold, map, length, get_or, take, refl, sym, ap, ◌∙◌, arith, subst, All, None, ◌⊎◌, inl, inr}
 use Rattle.std.specs.List.{AllByRecursion}
 use Rattle.std.proofs.lemmas.List.{append_assoc, append-nil}
 use Rattle.std.proofs.lemmas.List.Elements.{All-append}
@@ -13,7 +13,7 @@ use Rattle.sw_set.specs.Shelf.{AreReceivable, AreaState, Rises, came_in, came_th
 use Rattle.sw_set.proofs.Areas.After.{came-rise, rows-rise}
 use Rattle.sw_set.proofs.Areas.Receiving.{all-one}
 use Rattle.sw_chunks.specs.Cleared.{AreEach}
-use Rattle.sw_chunks.specs.Cuts.{Interval, RiseAbove, intervals, place_in}
+use Rattle.sw_chunks.specs.Cuts.{Interval, RiseAbove, intervals}
 use Rattle.sw_chunks.specs.Heads.{AreAreasOf, CellsFit, IsSameButInbox, RowFits, StandsFor, interval_of, part_of}
 use Rattle.sw_chunks.specs.Places.{IsSent, MayBeSent, find_place, owner_of, owners_of, owners_then, place_by, place_of_row, sent}
 use Rattle.sw_chunks.specs.Routing.{CameHere, MayFollow, given_by, routed}

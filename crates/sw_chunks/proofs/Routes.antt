@@ -1,5 +1,5 @@
 -- The updates whose place is an area's are those that are routed to it.
-use Rattle.std.proofs.Common.{◌≡◌, ◌≢◌, ◌<◌, ◌≤◌, ◌+◌, ◌++◌, ◌==◌, ◌||◌, nat_eq, ℕ, ℤ, zero, suc, Bool, true, false, true≢false, cond, List, [], ◌∷◌, filter, fold, map, length, get_or, refl, sym, ap, ◌∙◌, arith, subst, All, Option, None, ◌⊎◌, inl, inr}
+use Rattle.std.proofs.Common.{◌≡◌, ◌≢◌, ◌<◌, ◌+◌, ◌++◌, ◌==◌, ◌||◌, ℕ, ℤ, zero, suc, Bool, true, false, true≢false, cond, List, [], ◌∷◌, filter, fold, map, length, get_or, refl, sym, ap, ◌∙◌, arith, subst, All, None, ◌⊎◌, inl, inr}
 use Rattle.std.specs.List.{AllByRecursion}
 use Rattle.std.proofs.lemmas.Bool.Decides.{nat_tests}
 use Rattle.std.proofs.lemmas.List.{append-nil}
@@ -7,11 +7,11 @@ use Rattle.sw_table.specs.declared.row.Row.{Row}
 use Rattle.sw_table.specs.declared.row.Update.{Update}
 use Rattle.sw_table.specs.declared.row.Update.TheVariants as update
 use Rattle.sw_query.specs.Scan.{cell_of}
-use Rattle.sw_table.specs.Updates.{has_key, rows_then, without}
+use Rattle.sw_table.specs.Updates.{has_key, without}
 use Rattle.sw_kernel.proofs.Members.{Mem, all-mem, mem-either, mem-filtered, mem-last, mem-left}
 use Rattle.sw_set.specs.Shelf.{AreReceivable, Rises, came_then, key_of, lies_within}
 use Rattle.sw_set.proofs.Areas.Longer.{rises-last, rises-without}
-use Rattle.sw_chunks.specs.Cuts.{Interval, RiseAbove, intervals, place_in}
+use Rattle.sw_chunks.specs.Cuts.{Interval, RiseAbove, intervals}
 use Rattle.sw_chunks.specs.Places.{find_place, owners_of, place_by, place_of_row, sent}
 use Rattle.sw_chunks.specs.Routing.{routed}
 use Rattle.sw_chunks.proofs.Cutting.{one_interval}

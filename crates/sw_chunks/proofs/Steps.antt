@@ -1,19 +1,18 @@
 -- One area after the other is asked.
-use Rattle.std.proofs.Common.{◌≡◌, ◌≢◌, ◌<◌, ◌≤◌, ◌+◌, ◌&&◌, nat_eq, ℕ, zero, suc, Bool, true, false, true≢false, List, [], ◌∷◌, length, get_or, drop, slice_set, refl, sym, ap, ◌∙◌, arith, subst, fold, All, Result, MatchResult, IfOk}
+use Rattle.std.proofs.Common.{◌≡◌, ◌≢◌, ◌<◌, ◌≤◌, ◌+◌, nat_eq, ℕ, zero, suc, Bool, true, false, true≢false, List, [], ◌∷◌, length, get_or, drop, slice_set, refl, sym, ap, ◌∙◌, arith, subst, fold, All, Result, MatchResult, IfOk}
 use Rattle.std.proofs.lemmas.Bool.Decides.{nat_tests}
 use Rattle.sw_table.specs.declared.row.Row.{Row}
 use Rattle.sw_query.specs.declared.query.Query.{Query}
 use Rattle.sw_query.specs.declared.reply.Reply.{Reply}
 use Rattle.sw_query.specs.declared.refusal.Refusal.{Refusal}
-use Rattle.sw_query.specs.Scan.{answer}
 use Rattle.sw_table.specs.Updates.{rows_then}
 use Rattle.sw_set.specs.declared.area.ready.Ready.{Ready}
 use Rattle.sw_set.proofs.Preparing.Ends.{noted-stand}
 use Rattle.sw_set.proofs.Replying.Told.{if-ok}
 use Rattle.sw_set.specs.Merged.{StandsForSame}
-use Rattle.sw_set.specs.Prepared.{IsNotedFor, IsPreparedFor, IsSameButBoxes, area_lower, area_upper, is_touched, stands_if}
-use Rattle.sw_set.specs.Shelf.{AreaState, IsSameArea, came_in, logged_rows, rows_in}
-use Rattle.sw_chunks.specs.Cleared.{AreClearedBut, AreEach}
+use Rattle.sw_set.specs.Prepared.{IsNotedFor, IsPreparedFor, IsSameButBoxes, area_lower, area_upper, is_touched}
+use Rattle.sw_set.specs.Shelf.{AreaState, IsSameArea, came_in, logged_rows}
+use Rattle.sw_chunks.specs.Cleared.{AreClearedBut}
 use Rattle.sw_chunks.specs.Heads.{AreUntouchedKept, AreUntouchedSame, IsRanged}
 use Rattle.sw_chunks.specs.Asked.{AreAskedBefore, AreaFits, AreasFit, IsOneAsked, with_all, with_area}
 use Rattle.sw_chunks.proofs.Asking.{get-any, next-fits, rest-all, rest-fits, set-many, set-other, set-same}

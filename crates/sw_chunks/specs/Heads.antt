@@ -11,7 +11,7 @@ use Rattle.sw_table.specs.Packed.{Packed}
 use Rattle.sw_table.specs.Updates.{rows_of}
 use Rattle.sw_map.specs.Held.{blank}
 use Rattle.sw_set.specs.Needs.{edge, lower_in, touches, upper_in}
-use Rattle.sw_set.specs.Shelf.{AreaState, Rises, came_in, key_of, lies_within, loaded_area, rows_in}
+use Rattle.sw_set.specs.Shelf.{AreaState, Rises, came_in, key_of, loaded_area, rows_in}
 use Rattle.sw_set.specs.Prepared.{IsSameButBoxes, area_lower, area_upper, is_touched, stands_if}
 use Rattle.sw_chunks.specs.Routing.{CameHere, given_by}
 pub use Rattle.sw_chunks.specs.Routing.{interval_of, part_of}

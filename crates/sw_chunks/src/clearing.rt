@@ -1,6 +1,6 @@
 //! Maps of a head's areas, cleared by least recent use.
 
-ghost use Rattle.std.specs.Prelude.{◌≡◌, ◌⊎◌, ◌+◌, min, MatchOption, Some};
+ghost use Rattle.std.specs.Prelude.{◌≡◌, ◌+◌, min, MatchOption};
 ghost use Rattle.sw_chunks.specs.Cleared.{AreBlankBut, AreClearedBut, IsMappedBut};
 
 use sw_map::CrackerMap;

@@ -1,7 +1,6 @@
 //! A query over areas at rest: each that it touches is ready for it as it stands, so that nothing changes.
 
 ghost use Rattle.std.specs.Prelude.{◌≡◌, [], true, All, IfOk, IfSome, IsOkUnless};
-ghost use Rattle.sw_query.specs.Outcomes.{MemoryAside};
 ghost use Rattle.sw_query.specs.Scan.{AsksBelow, answer, answer_over};
 ghost use Rattle.sw_query.specs.declared.refusal.Refusal.TheVariants.{NoMemory};
 ghost use Rattle.sw_set.specs.Needs.{head_in};

@@ -1,6 +1,6 @@
 //! A query over areas by scans: each that it touches is merged and its rows are gone over, from the lowest.
 
-ghost use Rattle.std.specs.Prelude.{◌≡◌, [], true, false, All, IfOk, IsOkUnless};
+ghost use Rattle.std.specs.Prelude.{◌≡◌, [], false, IfOk, IsOkUnless};
 ghost use Rattle.sw_query.specs.Scan.{AsksBelow, answer, answer_over};
 ghost use Rattle.sw_query.specs.declared.refusal.Refusal.TheVariants.{NoMemory};
 ghost use Rattle.sw_set.specs.Merged.{StandsForSame};

@@ -1,7 +1,6 @@
 //! Boxes that come to a head's areas, and boxes that go.
 
-ghost use Rattle.std.specs.Prelude.{◌≡◌, ◌<◌, ◌≤◌, ◌+◌, ℕ, length, get_or};
-ghost use Rattle.sw_set.specs.Shelf.{AreaState};
+ghost use Rattle.std.specs.Prelude.{◌<◌, length};
 ghost use Rattle.sw_chunks.specs.Shelved.{AreShed, IsFewest};
 
 use sw_map::CrackerMap;

@@ -1,6 +1,6 @@
 //! Boxes that wait until their head is asked.
 
-ghost use Rattle.std.specs.Prelude.{◌≡◌, ◌+◌, ◌<◌, min, IfErr, IsOkUnless, OnErr, OnOk};
+ghost use Rattle.std.specs.Prelude.{◌≡◌, ◌+◌, ◌<◌, min, IfErr, IsOkUnless, OnOk};
 ghost use Rattle.sw_query.specs.declared.refusal.Refusal.TheVariants.{NoMemory};
 ghost use Rattle.sw_map.specs.Held.{blank};
 ghost use Rattle.sw_chunks.specs.Shelved.{boxes_in};

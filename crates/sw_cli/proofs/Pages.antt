@@ -1,5 +1,5 @@
 -- Calls whose lines go out as each is answered: one call more, one page more, and what is left where the sink failed.
-use Rattle.std.proofs.Common.{true, false, true≢false, ◌≡◌, ◌∙◌, sym, ap, subst, refl, inl, inr, ℕ, zero, suc, ◌+◌, ◌<◌, List, [], ◌∷◌, ◌++◌, append_assoc, arith, All, drop, get_or, length, length-append, map, take, Option, Result, Ok, Err, IfOk, IfErr, OnErr}
+use Rattle.std.proofs.Common.{true, false, true≢false, ◌≡◌, ◌∙◌, sym, ap, subst, refl, inl, inr, ℕ, suc, ◌+◌, ◌<◌, List, [], ◌∷◌, ◌++◌, append_assoc, arith, All, get_or, length, length-append, map, take, Option, Result, Ok, Err, IfOk, IfErr, OnErr}
 use Rattle.std.specs.Prelude.{is_err}
 use Rattle.std.specs.Result.{IsErrAnd}
 use Rattle.std.proofs.lemmas.List.{append-nil, take_more}
@@ -7,7 +7,6 @@ use Rattle.std.proofs.Math.Seq.{get_or-append_seam}
 use Rattle.sw_spine.specs.History.{CallsBelow}
 use Rattle.sw_cli.specs.Script.{AllCallsBelow}
 use Rattle.std.proofs.lemmas.List.Elements.{All-append, All-cons, All-nil, All-push}
-use Rattle.sw_rows.specs.Gives.{Raised}
 use Rattle.sw_rows.specs.Header.{Column}
 use Rattle.sw_query.specs.declared.query.Call.{Call}
 use Rattle.sw_query.specs.declared.reply.Reply.{Reply}

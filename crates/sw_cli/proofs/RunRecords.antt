@@ -1,5 +1,5 @@
 -- The record of a run is one of which history files tell.
-use Rattle.std.proofs.Common.{◌≡◌, ◌∙◌, ap, sym, refl, subst, ℕ, ◌<◌, ◌≤◌, ◌==◌, ◌&&◌, Bool, true, false, not, true≢false, All, List, [], ◌∷◌, length, map, arith, Some, Ok}
+use Rattle.std.proofs.Common.{◌≡◌, ◌∙◌, ap, sym, refl, subst, ℕ, ◌<◌, ◌≤◌, ◌==◌, Bool, true, false, not, true≢false, All, List, [], ◌∷◌, length, map, arith, Some}
 use Rattle.std.proofs.lemmas.Bool.{and_parts}
 use Rattle.std.proofs.lemmas.Bool.Decides.{nat_tests}
 use Rattle.std.proofs.lemmas.List.{length-map}
@@ -10,20 +10,20 @@ use Rattle.sw_rows.specs.Header.{Column, IsSchema, kinds_of}
 use Rattle.sw_query.specs.declared.query.Call.{Call}
 use Rattle.sw_lang.specs.Grammar.{IsLine}
 use Rattle.sw_lang.proofs.Parsing.Lines.{line_found}
-use Rattle.sw_spine.specs.History.{Agrees, AllAgree, History, all_given, is_absent, is_given, is_open}
+use Rattle.sw_spine.specs.History.{Agrees, AllAgree, all_given, is_absent, is_given, is_open}
 use Rattle.sw_spine.specs.Rest.{none_open}
 use Rattle.sw_spine.specs.Table.{opened, updates_then}
 use Rattle.sw_spine.specs.declared.history.Entry.{Entry}
 use Rattle.sw_spine.specs.declared.history.State.{State}
 use Rattle.sw_spine.specs.declared.history.State.TheVariants.{Answered, Lines, Open, Void}
-use Rattle.sw_histories.specs.ReadBack.{HasCells, IsCalled, IsOfRun, IsStateOf}
+use Rattle.sw_histories.specs.ReadBack.{HasCells, IsCalled, IsStateOf}
 use Rattle.sw_histories.proofs.Back.LegalFiles.{files_found_legal}
-use Rattle.sw_cli.specs.Outcomes.{Outcome, calls_of}
-use Rattle.sw_cli.specs.Run.{Leaves, Start, is_session, start_of}
-use Rattle.sw_cli.specs.RunRecords.{IsLeft, RecordsAreFoundLegal, RecordsAreOfRuns}
+use Rattle.sw_cli.specs.Outcomes.{calls_of}
+use Rattle.sw_cli.specs.Run.{is_session}
+use Rattle.sw_cli.specs.RunRecords.{RecordsAreFoundLegal, RecordsAreOfRuns}
 use Rattle.sw_cli.proofs.Learned.{IsRead}
 use Rattle.sw_cli.proofs.Entries.{AllOfEntries, all_entries}
-use Rattle.sw_cli.proofs.TextCalls.{AllOver, start_over}
+use Rattle.sw_cli.proofs.TextCalls.{start_over}
 
 -- a call that some line gives
 abbrev IsGiven : List Column → Call → Type 0

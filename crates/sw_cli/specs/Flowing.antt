@@ -1,5 +1,5 @@
 -- What calls come to whose lines go out as each is answered.
-use Rattle.std.specs.Prelude.{ℕ, List, ◌++◌, slice_index_or, Result}
+use Rattle.std.specs.Prelude.{ℕ, List, ◌++◌, Result}
 use Rattle.sw_query.specs.declared.refusal.Refusal.{Refusal}
 use Rattle.sw_rows.specs.Header.{Column}
 use Rattle.sw_table.specs.declared.row.Row.{Row}

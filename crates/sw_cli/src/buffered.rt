@@ -1,6 +1,6 @@
 //! A sink that is written by the block.
 
-ghost use Rattle.std.specs.Prelude.{◌≡◌, ◌≤◌, IfOk, [], ◌∷◌, List, ℕ, Option, None, OnOk, OnErr, true, vec_capacity, vec_len};
+ghost use Rattle.std.specs.Prelude.{◌≡◌, ◌≤◌, IfOk, [], List, ℕ, Option, None, OnOk, OnErr, true, vec_capacity, vec_len};
 ghost use Rattle.std.specs.Io.KnownBytes.{append_known};
 ghost use Rattle.sw_rows.specs.Gives.{Raised};
 ghost use Rattle.sw_cli.specs.declared.buffered.TheConstants.{BLOCK};

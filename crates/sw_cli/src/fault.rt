@@ -1,6 +1,6 @@
 //! Refusals on standard error.
 
-ghost use Rattle.std.specs.Prelude.{◌≡◌, ◌++◌, codes, decimal};
+ghost use Rattle.std.specs.Prelude.{◌≡◌, ◌++◌, codes};
 ghost use Rattle.sw_cli.specs.Faults.{fault_line, labelled, line_text, refusal_text, short_text, status_of};
 ghost use Rattle.sw_query.specs.Refusals.{why_name};
 ghost use Rattle.sw_lang.specs.Sinks.{Wrote};

@@ -1,6 +1,5 @@
 //! What each head tells of itself after a run, as a table.
 
-ghost use Rattle.std.specs.Prelude.{◌++◌};
 ghost use Rattle.sw_lang.specs.Sinks.{Wrote};
 ghost use Rattle.sw_cli.specs.Stats.{after_areas, after_entries, after_maps, after_scans, numbers_text, stats_line, stats_title};
 

@@ -1,6 +1,6 @@
 //! What each refusal means, and what to do about it.
 
-ghost use Rattle.std.specs.Prelude.{◌≡◌, ◌≤◌, IfOk, IfSome};
+ghost use Rattle.std.specs.Prelude.{◌≡◌, IfOk};
 
 use crate::failure::Failure;
 use crate::outflow::{Outflow, Reader};

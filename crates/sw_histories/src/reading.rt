@@ -1,15 +1,14 @@
 //! A record is read from a JSON text.
 
-ghost use Rattle.std.specs.Prelude.{◌≡◌, ◌≤◌, Some, None, option_map, IfErr, IfOk, IfSome};
+ghost use Rattle.std.specs.Prelude.{◌≡◌, ◌≤◌, option_map, IfErr, IfOk, IfSome};
 ghost use Rattle.serde_json.specs.Data.{object};
 ghost use Rattle.serde_json.specs.View.{members_view, view};
 ghost use Rattle.sw_query.specs.declared.refusal.Refusal.TheVariants.{BadLine};
 ghost use Rattle.sw_query.specs.declared.refusal.Why.TheVariants as why;
 ghost use Rattle.sw_rows.specs.declared.table.TheConstants.{MOST_ROWS};
-ghost use Rattle.sw_spine.specs.declared.spine.TheConstants.{MOST_ENTRIES};
 ghost use Rattle.sw_histories.specs.Outlines.{IsOutlineOf, IsWithinMost, front_as, front_of, limit_of, outside_in, read_as, record_in};
 ghost use Rattle.sw_histories.specs.Told.{Reads, TellsText};
-ghost use Rattle.sw_histories.specs.RecordReading.{array_at, has_members, number_at, record_at};
+ghost use Rattle.sw_histories.specs.RecordReading.{record_at};
 
 mod entries;
 mod members;

@@ -1,6 +1,6 @@
 //! What the cells of a column are, and how each is written.
 
-ghost use Rattle.std.specs.Prelude.{[], ◌≡◌, is_some, slice_index_or};
+ghost use Rattle.std.specs.Prelude.{[], ◌≡◌, slice_index_or};
 ghost use Rattle.sw_rows.specs.Cells.{HasPlaces, cell_value};
 ghost use Rattle.sw_rows.specs.Domains.{domain};
 ghost use Rattle.sw_import.specs.Forms.{begins_plainly, domain_of, fits, flag_of, forms_tried, number_domain, number_word, takes_blanks, word_of};

@@ -1,6 +1,6 @@
 //! What is to become of cells that stand for no value of their column.
 
-ghost use Rattle.std.specs.Prelude.{◌≡◌, option_map};
+ghost use Rattle.std.specs.Prelude.{◌≡◌};
 ghost use Rattle.sw_import.specs.Made.{is_blank};
 
 use crate::forms::Form;

@@ -1,6 +1,6 @@
 //! Orders of calls whose keys are whatever a store gave.
 
-ghost use Rattle.std.specs.Prelude.{◌≡◌, length, IfOk, IfSome, IsOkUnless};
+ghost use Rattle.std.specs.Prelude.{length, IfOk, IfSome, IsOkUnless};
 ghost use Rattle.sw_logs.specs.Openings.{IsOpening};
 ghost use Rattle.sw_logs.specs.Orders.{AllFit};
 ghost use Rattle.sw_keys.specs.Renamings.{IsRenamedOrder, IsRenaming};

@@ -1,6 +1,6 @@
 //! Flags of rows.
 
-ghost use Rattle.std.specs.Prelude.{◌≡◌, ◌≤◌, ◌<◌, ◌+◌, ℕ, true, false, All, Bool, Decides, length, slice_index_or, MatchOption, IfOk};
+ghost use Rattle.std.specs.Prelude.{◌≡◌, ◌≤◌, true, All, Bool, Decides, length, MatchOption, IfOk};
 ghost use Rattle.sw_load.specs.Flags.{AreLive, IsNextGone};
 ghost use Rattle.sw_load.specs.Gone.{ArePlaces, flags_without};
 

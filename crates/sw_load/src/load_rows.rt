@@ -1,6 +1,6 @@
 //! The rows of a load.
 
-ghost use Rattle.std.specs.Prelude.{◌≡◌, ◌≤◌, ◌<◌, ◌+◌, ◌^◌, ◌++◌, ℕ, true, pos, All, length, map, replicate, slice_index_or, vec_len, MatchOption, OnOk, OnErr};
+ghost use Rattle.std.specs.Prelude.{◌≡◌, ◌≤◌, ◌<◌, ◌+◌, ◌^◌, ◌++◌, true, pos, All, length, map, replicate, slice_index_or, vec_len, MatchOption, OnOk, OnErr};
 ghost use Rattle.sw_query.specs.Scan.{cell_of};
 ghost use Rattle.sw_table.specs.declared.row.Row.{Row};
 ghost use Rattle.sw_table.specs.Rows.{HasNoRow, IsRowAt};

@@ -1,8 +1,8 @@
 -- What a purse that comes back from a refused lease shows.
-use Rattle.std.proofs.Common.{◌≡◌, ℕ, ap, sym, ◌∙◌, Bool, Result, Ok, Err, MatchResult, IfErr}
+use Rattle.std.proofs.Common.{ℕ, ap, sym, ◌∙◌, Result, Ok, Err, IfErr}
 use Rattle.sw_query.specs.declared.refusal.Refusal.{Refusal}
 use Rattle.sw_query.specs.declared.refusal.Refusal.TheVariants as refusal
-use Rattle.sw_budget.specs.Account.{Account, returned}
+use Rattle.sw_budget.specs.Account.{Account}
 use Rattle.sw_map.specs.States.{HasLeasedOr, HasReturned, IsLookOf}
 
 shown : (a : Account) (cells : ℕ) (b : Account) (e : Refusal) → HasReturned a cells b e → IsLookOf b e

@@ -5,7 +5,7 @@ ghost use Rattle.sw_query.specs.Bounds.{bound_below};
 ghost use Rattle.sw_kernel.specs.Partition.{goes_left, head_of};
 ghost use Rattle.sw_kernel.specs.Arrangement.{crack};
 ghost use Rattle.sw_kernel.specs.Replay.{crack_at, ranged, step};
-ghost use Rattle.sw_kernel.specs.Flat.{InOrder, IsNew, KeepsRoom, end_before, marks_below, start_at};
+ghost use Rattle.sw_kernel.specs.Flat.{InOrder, IsNew, KeepsRoom, marks_below, start_at};
 ghost use Rattle.sw_kernel.specs.Tapes.{IsRising};
 ghost use Rattle.sw_map.specs.Pieces.{AreCut, bounds_of, count_between, cut_twice, parted, zipped};
 

@@ -7,7 +7,7 @@ ghost use Rattle.sw_kernel.specs.Replay.{Step};
 ghost use Rattle.sw_kernel.specs.Arrangement.{joined};
 ghost use Rattle.sw_tape.specs.Entries.{step_of};
 ghost use Rattle.sw_tape.specs.declared.tape.TheConstants.{MAX_ENTRIES};
-ghost use Rattle.sw_map.specs.Held.{Held, blank, begun, after, pairs_in, place_of, tails_in, MayReplay, KeysFit};
+ghost use Rattle.sw_map.specs.Held.{Held, blank, after, pairs_in, place_of, tails_in, MayReplay, KeysFit};
 ghost use Rattle.sw_map.specs.Refusals.{HasBegunOr, HasGrownOr, HasReplayedOr};
 ghost use Rattle.sw_map.specs.Twins.{HaveSameHeads, MayStep};
 

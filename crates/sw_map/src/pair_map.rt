@@ -72,7 +72,7 @@ impl CrackerMap for PairMap {
     ghost use Rattle.std.specs.Prelude.{◌≡◌, ◌<◌, ◌≤◌, IfErr, IfOk, IsOk, OnErr, false, true};
     ghost use Rattle.sw_tape.specs.Entries.{step_of};
     ghost use Rattle.sw_tape.specs.declared.tape.TheConstants.{MAX_ENTRIES};
-    ghost use Rattle.sw_map.specs.Held.{KeysFit, MayReplay, after, begun, blank, pairs_in};
+    ghost use Rattle.sw_map.specs.Held.{KeysFit, MayReplay, after, blank, pairs_in};
     ghost use Rattle.sw_map.specs.Pieces.{TakesNoMemory};
     ghost use Rattle.sw_map.specs.Refusals.{HasBegunOr, HasGrownOr, HasReplayedOr};
     ghost use Rattle.sw_map.specs.Twins.{HaveSameHeads, MayStep};

@@ -8,7 +8,6 @@ ghost use Rattle.sw_query.specs.Scan.{cell_of};
 ghost use Rattle.sw_kernel.specs.Arrangement.{joined, last};
 ghost use Rattle.sw_kernel.specs.Replay.{inserted, loaded, ranged, removed, shown_step};
 ghost use Rattle.sw_tape.specs.Entries.{step_of};
-ghost use Rattle.sw_map.specs.declared.tail.Tail.TheVariants.{Key};
 ghost use Rattle.sw_map.specs.Held.{KeysFit, pair_in, place_of, tail_value};
 ghost use Rattle.sw_map.specs.Twins.{HaveSameHeads};
 ghost use Rattle.sw_map.specs.Pieces.{HasPlace, HasRoomAfter, HasSteppedOr, TakesNoMemory, stepped};

@@ -1,7 +1,6 @@
 //! Where a bound's mark stands among rising marks.
 
 ghost use Rattle.std.specs.Prelude.{◌≡◌, ◌≤◌, length, Decides};
-ghost use Rattle.sw_kernel.specs.declared.mark.Mark.{Mark};
 ghost use Rattle.sw_kernel.specs.Flat.{marks_below};
 ghost use Rattle.sw_kernel.specs.Tapes.{IsRising};
 ghost use Rattle.sw_map.specs.Pieces.{IsBefore, bounds_of, mark_of};

@@ -1,6 +1,6 @@
 //! Cracks of two maps that have the same heads and the same marks: what goes left is looked for once.
 
-ghost use Rattle.std.specs.Prelude.{◌≡◌, ◌<◌, ◌≤◌, ◌+◌, vec_capacity, vec_len};
+ghost use Rattle.std.specs.Prelude.{◌≡◌, ◌≤◌, vec_len};
 ghost use Rattle.sw_kernel.specs.Partition.{head_of};
 ghost use Rattle.sw_kernel.specs.Arrangement.{crack};
 ghost use Rattle.sw_kernel.specs.Replay.{crack_at};

@@ -1,17 +1,16 @@
 -- The line of JSON of a call tells its reply.
-use Rattle.std.proofs.Common.{◌≡◌, ◌∙◌, ap, sym, refl, subst, ℕ, zero, suc, ◌^◌, ◌<◌, ◌≤◌, ◌⊎◌, inl, inr, ℤ, pos, negsuc, Bool, max, List, [], ◌∷◌, map, codes, decimal, Option, Some, None, FitsSigned, w64, arith}
+use Rattle.std.proofs.Common.{◌≡◌, ◌∙◌, ap, sym, refl, subst, ℕ, zero, suc, ◌^◌, ◌<◌, ◌≤◌, ◌⊎◌, inl, inr, ℤ, pos, negsuc, List, [], ◌∷◌, map, decimal, Option, Some, None, FitsSigned, w64, arith}
 use Rattle.std.specs.Int.{w128}
 use Rattle.std.specs.List.{All, AllByRecursion}
 use Rattle.std.specs.Ordering.{int_eq}
 use Rattle.std.specs.Prelude.{option_and_then, option_map, unwrap_or}
 use Rattle.std.proofs.lemmas.List.Elements.{recursion_from_All}
-use Rattle.json.specs.Json.{Json, null, boolean, number, string, array, object, Items, no_items, item, Members, no_members, member, document}
-use Rattle.json.specs.Find.{as_array, as_str}
+use Rattle.json.specs.Json.{Json, number, Items}
 use Rattle.json.specs.Tree.{HasNumbers, ItemsHaveNumbers, depth, items_depth}
 use Rattle.sw_rows.proofs.Schemas.TextLaws.{code_there}
 use Rattle.sw_rows.specs.Domains.{Domain, IsDomain}
 use Rattle.sw_rows.specs.Domains as kind
-use Rattle.sw_rows.specs.Header.{Column, IsSchema, kinds_of}
+use Rattle.sw_rows.specs.Header.{Column}
 use Rattle.sw_query.specs.Replies.{reply_row}
 use Rattle.sw_rows.specs.Texts.{code_of, text_at}
 use Rattle.sw_query.specs.declared.query.Cond.{Cond}
@@ -23,12 +22,10 @@ use Rattle.sw_query.specs.declared.reply.Reply.{Reply}
 use Rattle.sw_query.specs.declared.reply.Reply.TheVariants as reply
 use Rattle.sw_query.specs.declared.reply.ReplyRow.{ReplyRow}
 use Rattle.sw_lang.specs.Replies.{kind_at, sum_text}
-use Rattle.sw_lang.specs.PrintedCalls.{call_text, name_at}
-use Rattle.sw_outputs.specs.JsonLines.{answer_json, cell_json, cells_json, count_json, extreme_json, line_json, list_json, name_json, names_json, one_json, reply_json, row_json, rows_json, scalar_json, text_shown, told_json, told_text}
-use Rattle.sw_outputs.specs.JsonReading.{AnswersCall, AnswersOrNot, AnswersWant, AreCellsOf, IsCellOf, IsExtremeOf, IsLineNumber, IsRowOf, IsTold, LinesAreReadBack, Tells, answer_in, cell_in, cells_in, count_in, extreme_in, flag_kept, inserted, keyed_in, listed_in, member_in, number_in, optional, removed, reply_in, row_in, rows_in, sum_in}
-use Rattle.sw_outputs.specs.Texts.{items_of, value_text}
-use Rattle.sw_outputs.specs.declared.told.Told.{Told}
-use Rattle.sw_outputs.proofs.Numbers.{IsRead, IsSmall, count_number, count_read, fixed_read, whole_read}
+use Rattle.sw_outputs.specs.JsonLines.{answer_json, cell_json, cells_json, count_json, extreme_json, line_json, name_json, one_json, reply_json, row_json, text_shown, told_json, told_text}
+use Rattle.sw_outputs.specs.JsonReading.{AnswersCall, AnswersOrNot, AnswersWant, AreCellsOf, IsCellOf, IsExtremeOf, IsLineNumber, IsRowOf, LinesAreReadBack, answer_in, cell_in, cells_in, count_in, flag_kept, inserted, optional, removed, row_in, rows_in, sum_in}
+use Rattle.sw_outputs.specs.Texts.{items_of}
+use Rattle.sw_outputs.proofs.Numbers.{IsSmall, count_number, count_read, fixed_read, whole_read}
 use Rattle.sw_outputs.proofs.ValueTexts.{value_read}
 use denote.Ref.{Bor}
 

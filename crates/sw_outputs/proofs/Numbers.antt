@@ -1,9 +1,8 @@
 -- Numbers as they are written are numbers of JSON, and are read again.
-use Rattle.std.proofs.Common.{◌≡◌, ◌∙◌, ap, sym, refl, subst, ℕ, zero, suc, ◌+◌, ◌-◌, ◌*◌, ◌/◌, ◌%◌, ◌^◌, ◌<◌, ◌≤◌, ℤ, pos, negsuc, neg_ℤ, Bool, true, false, cond, List, [], ◌∷◌, ◌++◌, length, drop, get_or, fold, decimal, codes, Some, append-nil, length-append, div-le_self, pow-suc, mul_assoc, arith, ◌==◌}
+use Rattle.std.proofs.Common.{◌≡◌, ◌∙◌, ap, sym, refl, subst, ℕ, zero, suc, ◌+◌, ◌-◌, ◌*◌, ◌/◌, ◌%◌, ◌^◌, ◌<◌, ◌≤◌, ℤ, pos, negsuc, neg_ℤ, true, cond, List, [], ◌∷◌, ◌++◌, length, drop, get_or, fold, decimal, codes, Some, append-nil, length-append, div-le_self, pow-suc, mul_assoc, arith}
 use Rattle.std.proofs.lemmas.Bool.{and_parts, ne_eqb}
 use Rattle.std.proofs.lemmas.Bool.Decides.{nat_tests}
 use Rattle.std.proofs.lemmas.Fmt.{decimal_by_steps_wide}
-use Rattle.std.proofs.lemmas.List.{drop_all}
 use Rattle.std.proofs.lemmas.List.Sums.{fold-append}
 use Rattle.std.proofs.lemmas.Nat.{div-add-mod', mod_below}
 use Rattle.std.specs.Char.{is_ascii_digit}
@@ -11,7 +10,7 @@ use Rattle.std.specs.Fmt.{signed_decimal}
 use Rattle.std.specs.List.{list_all, prefix_len}
 use Rattle.std.specs.Prelude.{option_and_then, option_map}
 use Rattle.json.specs.Print.{IsNumber}
-use Rattle.json.specs.Word.{after_digits, after_exponent, after_fraction, after_minus, after_number, after_whole, head}
+use Rattle.json.specs.Word.{after_digits, after_exponent, after_fraction, after_minus, after_number, after_whole}
 use Rattle.sw_rows.proofs.Tables.CellSpelling.{magnitude_read}
 use Rattle.sw_rows.specs.Cells.{magnitude}
 use Rattle.sw_rows.specs.Spelling.{fraction, number_of}

@@ -1,22 +1,18 @@
 -- The pieces of which the text of a line is put together.
-use Rattle.std.proofs.Common.{◌≡◌, ◌∙◌, ap, sym, refl, ℕ, ℤ, Bool, true, false, List, [], ◌∷◌, ◌++◌, map, codes, decimal, Option, Some, None, append_assoc}
+use Rattle.std.proofs.Common.{◌≡◌, ◌∙◌, ap, sym, refl, ℕ, true, List, [], ◌∷◌, ◌++◌, map, codes, decimal, append_assoc}
 use Rattle.std.specs.Fmt.{digits}
-use Rattle.std.specs.Prelude.{option_map}
-use Rattle.json.specs.Json.{Json, item, array}
+use Rattle.json.specs.Json.{Json}
 use Rattle.json.specs.Print.{escape_byte, quoted}
-use Rattle.sw_rows.specs.Domains.{Domain}
 use Rattle.sw_rows.specs.Domains as kind
 use Rattle.sw_rows.specs.Header.{Column}
 use Rattle.sw_query.specs.declared.query.Call.{Call}
 use Rattle.sw_query.specs.declared.reply.Reply.{Reply}
 use Rattle.sw_query.specs.declared.reply.ReplyRow.{ReplyRow}
 use Rattle.sw_lang.specs.PrintedCalls.{call_text}
-use Rattle.sw_lang.specs.Replies.{cell_text, kind_at}
-use Rattle.sw_outputs.specs.Fields.{cell_field}
-use Rattle.sw_outputs.specs.JsonLines.{answer_json, cell_json, called_word, count_json, kind_called, line_json, list_json, name_json, names_json, number_json, one_json, place_text, row_json, rows_json, scalar_json, told_line, told_text}
-use Rattle.sw_outputs.specs.Texts.{comma_if, items_of, items_text, value_text}
+use Rattle.sw_lang.specs.Replies.{kind_at}
+use Rattle.sw_outputs.specs.JsonLines.{answer_json, called_word, count_json, kind_called, line_json, list_json, name_json, names_json, number_json, one_json, place_text, row_json, rows_json, scalar_json, told_line, told_text}
+use Rattle.sw_outputs.specs.Texts.{items_of, items_text, value_text}
 use Rattle.sw_outputs.specs.declared.told.Told.{Told}
-use denote.Ref.{Bor}
 
 -- ---- lists
 

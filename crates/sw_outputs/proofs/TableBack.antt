@@ -1,8 +1,8 @@
 -- A table that is written is read as the rows shown.
-use Rattle.std.proofs.Common.{◌≡◌, ◌∙◌, ap, sym, refl, subst, ℕ, zero, suc, ◌+◌, ◌-◌, ◌^◌, ◌<◌, ◌≤◌, ◌&&◌, ◌||◌, ◌==◌, inl, inr, ℤ, pos, negsuc, Bool, true, false, not, cond, List, [], ◌∷◌, ◌++◌, length, map, replicate, codes, bytes_eq, nat_eq, nat_lt, Option, Some, None, Ok, FitsSigned, w64, slice_get, arith, true≢false}
+use Rattle.std.proofs.Common.{◌≡◌, ◌∙◌, ap, sym, refl, subst, ℕ, zero, suc, ◌+◌, ◌-◌, ◌<◌, ◌≤◌, ◌&&◌, ◌||◌, ◌==◌, inl, inr, ℤ, pos, Bool, true, false, not, List, [], ◌∷◌, ◌++◌, length, map, replicate, codes, bytes_eq, nat_eq, nat_lt, Some, Ok, slice_get, arith, true≢false}
 use Rattle.std.specs.List.{All, AllByRecursion, list_all, list_any}
 use Rattle.std.specs.Prelude.{if◌then◌else◌, unwrap_or}
-use Rattle.std.proofs.lemmas.Bool.{and_parts, ne_eqb}
+use Rattle.std.proofs.lemmas.Bool.{and_parts}
 use Rattle.std.proofs.lemmas.Bool.Decides.{nat_tests}
 use Rattle.std.proofs.lemmas.List.Elements.{recursion_from_All}
 use Rattle.std.proofs.lemmas.List.Folds.{list_all-append}
@@ -10,21 +10,20 @@ use Rattle.std.proofs.lemmas.Option.{same_Some}
 use Rattle.std.proofs.lemmas.Slice.Eq.{bytes_eq-Decides}
 use Rattle.csv.specs.Reading.{default_config, records, strip_bom}
 use Rattle.sw_rows.proofs.Tables.CellSpelling.{cell_spelled}
-use Rattle.sw_rows.proofs.Schemas.DomainLaws.{holding_kinds, holding_names, over_over}
+use Rattle.sw_rows.proofs.Schemas.DomainLaws.{over_over}
 use Rattle.sw_rows.proofs.Schemas.SchemaLaws.{name_there}
 use Rattle.sw_rows.proofs.Tables.TableSpelling.{table_read_back}
 use Rattle.sw_rows.proofs.Schemas.TextLaws.{code_only, code_there, text_sound}
 use Rattle.sw_rows.specs.Cells.{cell_value}
 use Rattle.sw_rows.specs.Domains.{Domain, IsDomain, IsFresh, IsOver, is_of_texts, kind_in, over}
 use Rattle.sw_rows.specs.Domains as kind
-use Rattle.sw_rows.specs.Header.{Column, IsSchema, holding, is_known, is_name, is_name_byte, is_word, kinds_of, names_differ, names_of, texts_of}
-use Rattle.sw_rows.specs.Spelling.{WriteCells, WriteColumns, WriteRows, WritesCell, WritesColumn, WritesHeader, WritesTable, kind_text}
+use Rattle.sw_rows.specs.Header.{Column, IsSchema, holding, is_known, is_name, is_name_byte, kinds_of, names_differ, names_of, texts_of}
+use Rattle.sw_rows.specs.Spelling.{WriteCells, WriteColumns, WriteRows, WritesCell, WritesHeader, WritesTable, kind_text}
 use Rattle.sw_rows.specs.Tables.{Table, padded, seeing, table_of, text_field, text_fields, texts_in}
-use Rattle.sw_rows.specs.TextRows.{Cell, cell_seen, cells_seen, row_seen, rows_seen, text_or}
+use Rattle.sw_rows.specs.TextRows.{Cell, cell_seen, cells_seen, rows_seen, text_or}
 use Rattle.sw_query.specs.Scan.{WantsBelow}
 use Rattle.sw_rows.specs.Texts.{AreTexts, code_of, has_text, is_text, text_at, text_of, with_texts}
 use Rattle.sw_rows.specs.declared.loading.TheConstants.{MOST_BYTES}
-use Rattle.sw_query.specs.declared.query.Call.{Call}
 use Rattle.sw_query.specs.declared.query.Call.TheVariants as call
 use Rattle.sw_query.specs.declared.query.Want.{Want}
 use Rattle.sw_query.specs.declared.query.Want.TheVariants as want
@@ -32,15 +31,15 @@ use Rattle.sw_query.specs.declared.reply.ReplyRow.{ReplyRow}
 use Rattle.sw_rows.specs.declared.table.TheConstants.{MOST_ROWS}
 use Rattle.sw_table.specs.declared.row.Row.{Row}
 use Rattle.sw_lang.proofs.Known.Knowing.{texts_known}
-use Rattle.sw_lang.proofs.Printed.Cells.{IsCell, cell_printed, value_tok, word_is}
-use Rattle.sw_lang.specs.Fits.{FitsCall, HasFewNames}
+use Rattle.sw_lang.proofs.Printed.Cells.{cell_printed, value_tok, word_is}
+use Rattle.sw_lang.specs.Fits.{HasFewNames}
 use Rattle.sw_lang.specs.Grammar.{IsValue}
 use Rattle.sw_lang.specs.PrintedCalls.{name_at}
 use Rattle.sw_lang.specs.Reading.{word_value}
 use Rattle.sw_lang.specs.Replies.{cell_text, kind_at}
-use Rattle.sw_lang.specs.Tokens.{Tok, comma, op, quoted, stray, word}
-use Rattle.sw_outputs.specs.Fields.{attrs_differ, cell_field, cell_fields, header_field, makes_table, records_text, row_fields, table_records, table_text}
-use Rattle.sw_outputs.specs.JsonLines.{attrs_shown, attrs_wanted, text_shown}
+use Rattle.sw_lang.specs.Tokens.{Tok, word}
+use Rattle.sw_outputs.specs.Fields.{attrs_differ, cell_field, cell_fields, header_field, records_text, row_fields, table_text}
+use Rattle.sw_outputs.specs.JsonLines.{attrs_wanted, text_shown}
 use Rattle.sw_outputs.specs.JsonReading.{AreCellsOf, IsCellOf, IsRowOf}
 use Rattle.sw_outputs.specs.TableReading.{Shows, TablesAreReadBack, numbered}
 use Rattle.sw_lang.proofs.Known.Given.{AreIn, HaveCodes, Texts, all_given, codes_append, has_from_code}

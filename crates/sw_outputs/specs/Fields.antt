@@ -1,5 +1,5 @@
 -- Replies as records of comma-separated values, and as tables.
-use Rattle.std.specs.Prelude.{◌≡◌, ◌&&◌, ℕ, ℤ, Bool, true, false, not, List, [], ◌∷◌, ◌++◌, length, map, nat_eq, nat_lt, codes, decimal, if◌then◌else◌, Option, Some, None}
+use Rattle.std.specs.Prelude.{◌≡◌, ◌&&◌, ℕ, ℤ, Bool, true, not, List, [], ◌∷◌, ◌++◌, length, map, nat_eq, nat_lt, codes, decimal, if◌then◌else◌, Option, Some, None}
 use Rattle.std.specs.List.{flat_map, list_any}
 use Rattle.csv.specs.Writing.{default_writer, row_text}
 use Rattle.sw_rows.specs.Domains.{Domain}

@@ -1,5 +1,5 @@
 -- A table of texts, whole numbers, decimals and flags, and two rows that are shown of it.
-use Rattle.std.specs.Prelude.{ℕ, ℤ, pos, negsuc, List, [], ◌∷◌, codes, ◌++◌}
+use Rattle.std.specs.Prelude.{ℕ, pos, negsuc, List, [], ◌∷◌, codes, ◌++◌}
 use Rattle.sw_rows.specs.Domains as kind
 use Rattle.sw_rows.specs.Header.{Column}
 use Rattle.sw_query.specs.Replies.{reply_row}

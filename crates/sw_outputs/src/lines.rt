@@ -1,6 +1,6 @@
 //! Replies as lines of JSON.
 
-ghost use Rattle.std.specs.Prelude.{◌≡◌, IfOk, List, codes, map, true};
+ghost use Rattle.std.specs.Prelude.{◌≡◌, IfOk, List, codes, map};
 ghost use Rattle.json.specs.Print.{quoted};
 ghost use Rattle.sw_lang.specs.PrintedCalls.{call_text};
 ghost use Rattle.sw_lang.specs.Replies.{sum_text};

@@ -1,10 +1,9 @@
 //! The plain scan.
 
-ghost use Rattle.std.specs.Prelude.{◌≡◌, ◌<◌, ◌++◌, ◌∷◌, [], length, slice_index_or, All, IfOk, IsOk, IsOkUnless, OnOk, OnErr, map};
-ghost use Rattle.sw_query.specs.Scan.{meets_all, answer, column, greatest, is_match, least, matching, selected, total, AsksBelow, CondsBelow, ShowsCells, ShowsRow, TakesMemory};
+ghost use Rattle.std.specs.Prelude.{◌≡◌, ◌<◌, ◌++◌, ◌∷◌, [], length, All, IfOk, IsOk, IsOkUnless, OnOk, OnErr, map};
+ghost use Rattle.sw_query.specs.Scan.{answer, column, greatest, least, matching, selected, total, AsksBelow, CondsBelow, ShowsCells, ShowsRow, TakesMemory};
 ghost use Rattle.sw_table.specs.Kept.{kept};
 ghost use Rattle.sw_table.specs.Live.{key_of};
-ghost use Rattle.sw_table.specs.declared.row.Row.{Row};
 
 pub(crate) mod places;
 pub(crate) mod sieve;

@@ -1,15 +1,14 @@
 //! Tables of comma-separated values.
 
-ghost use Rattle.std.specs.Prelude.{[], ◌++◌, ◌+◌, ◌≡◌, ◌<◌, ◌≤◌, ℕ, List, drop, false, length, Err, Ok, Some, IfOk, OnErr, OnOk, slice_get};
+ghost use Rattle.std.specs.Prelude.{[], ◌+◌, ◌≡◌, ◌<◌, ◌≤◌, drop, false, length, Err, IfOk, OnErr, OnOk};
 ghost use Rattle.csv.specs.Records.{fields_of};
 ghost use Rattle.sw_rows.specs.Groups.{AreSeen, IsCodeOrZero};
 ghost use Rattle.sw_rows.specs.Cells.{HasPlaces};
 ghost use Rattle.sw_rows.specs.Domains.{domain};
 ghost use Rattle.sw_rows.specs.Domains as kind;
 ghost use Rattle.sw_rows.specs.Gives.{Gives};
-ghost use Rattle.sw_rows.specs.Header.{kinds_of};
 ghost use Rattle.sw_rows.specs.Records.{IsPlain, left_in};
-ghost use Rattle.sw_rows.specs.Tables.{padded, shown_packed, table_in, table_of_records, text_field, NoText, GivesCell, GivesCells, GivesRowsBehind, GivesRowsOf, table_seeing, with_fields, with_records};
+ghost use Rattle.sw_rows.specs.Tables.{shown_packed, table_in, table_of_records, text_field, NoText, GivesCell, GivesCells, GivesRowsBehind, GivesRowsOf, table_seeing, with_fields, with_records};
 ghost use Rattle.sw_rows.specs.Texts.{is_text, with_texts};
 ghost use Rattle.sw_rows.specs.declared.table.TheConstants.{MOST_ROWS};
 ghost use Rattle.sw_table.specs.Packed.{zeros};

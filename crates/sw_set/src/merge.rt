@@ -1,7 +1,7 @@
 //! Merging: the updates that wait are logged in the tape one after the other, or taken up by a load with which the area
 //! begins anew.
 
-ghost use Rattle.std.specs.Prelude.{◌≡◌, ◌<◌, ◌+◌, [], true, false, length, drop, MatchResult};
+ghost use Rattle.std.specs.Prelude.{◌≡◌, ◌<◌, [], true, false, length, drop, MatchResult};
 ghost use Rattle.sw_table.specs.declared.row.Update.TheVariants.{Insert, Remove};
 ghost use Rattle.sw_table.specs.Updates.{has_key};
 ghost use Rattle.sw_query.specs.Outcomes.{IsRefused};

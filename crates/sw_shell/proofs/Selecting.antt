@@ -1,5 +1,5 @@
 -- The select of all rows.
-use Rattle.std.proofs.Common.{◌≡◌, ◌+◌, ◌++◌, ℕ, suc, List, [], ◌∷◌, ap, arith}
+use Rattle.std.proofs.Common.{◌≡◌, ◌+◌, ◌++◌, ℕ, suc, [], ◌∷◌, ap, arith}
 use Rattle.sw_shell.specs.Rows.{attributes}
 
 -- one attribute more

@@ -1,6 +1,6 @@
 //! Lines in turn, each of which is answered before the next one is read.
 
-ghost use Rattle.std.specs.Prelude.{◌≡◌, ◌⊎◌, [], false, not, IfOk, OnErr};
+ghost use Rattle.std.specs.Prelude.{◌≡◌, false, not, IfOk, OnErr};
 ghost use Rattle.sw_shell.specs.Lines.{is_quit};
 ghost use Rattle.sw_shell.specs.Talks.{Heard, Taken, Talked, Turned, said_at, seen_at};
 

@@ -1,6 +1,6 @@
 //! A head, once it is made, and what waits for it.
 
-ghost use Rattle.std.specs.Prelude.{◌≡◌, ◌<◌, ◌≤◌, ◌+◌, ◌^◌, ◌++◌, length, All, IfErr, IfOk, IfSome, IsOkUnless, IsSome, None, OnErr, OnOk};
+ghost use Rattle.std.specs.Prelude.{◌≡◌, ◌<◌, ◌≤◌, ◌+◌, ◌^◌, length, All, IfErr, IfOk, IfSome, IsOkUnless, IsSome, None, OnErr, OnOk};
 ghost use Rattle.sw_query.specs.Scan.{AsksBelow, answer};
 ghost use Rattle.sw_query.specs.declared.refusal.Refusal.TheVariants.{NoMemory};
 ghost use Rattle.sw_table.specs.Updates.{rows_of};
@@ -8,7 +8,6 @@ ghost use Rattle.sw_table.specs.declared.row.Row.{Row};
 ghost use Rattle.sw_map.specs.Held.{blank};
 ghost use Rattle.sw_set.specs.Needs.{head_in};
 ghost use Rattle.sw_set.specs.Shelf.{Rises, key_of};
-ghost use Rattle.sw_spine.specs.Table.{opened};
 ghost use Rattle.sw_chunks.specs.Cuts.{RiseAbove};
 ghost use Rattle.sw_chunks.specs.Routing.{MayFollow};
 ghost use Rattle.sw_chunks.specs.declared.places.TheConstants.{MOST_CUTS};

@@ -1,6 +1,6 @@
 //! Places of rows by their cells.
 
-ghost use Rattle.std.specs.Prelude.{◌≡◌, ◌≤◌, map, not, length, filter, IfOk, IfSome};
+ghost use Rattle.std.specs.Prelude.{◌≡◌, map, not, length, filter, IfOk, IfSome};
 ghost use Rattle.sw_query.specs.Bounds.{is_above, is_below, is_within};
 ghost use Rattle.sw_query.specs.Scan.{column};
 ghost use Rattle.sw_spine.specs.Indexes.{IsIndexOf, PlacesOf, placed};

@@ -1,6 +1,6 @@
 //! Cells of an attribute, exchanged in place.
 
-ghost use Rattle.std.specs.Prelude.{◌≡◌, ◌<◌, ◌*◌, ◌^◌, length};
+ghost use Rattle.std.specs.Prelude.{◌≡◌, ◌<◌, ◌*◌, length};
 ghost use Rattle.sw_table.specs.Exchanged.{exchanged, AreExchanged};
 
 /// The number that a code stands for, if it is one.

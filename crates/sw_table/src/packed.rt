@@ -1,6 +1,6 @@
 //! Rows as one flat list of cells.
 
-ghost use Rattle.std.specs.Prelude.{◌≡◌, ◌≤◌, ◌<◌, ◌*◌, ◌+◌, ◌^◌, ◌-◌, ◌++◌, ◌∷◌, [], ℕ, ℤ, List, length, map, take, drop, slice_index_or, vec_len, All, Decides, IfOk, IsOk, MatchOption, OnOk, OnErr};
+ghost use Rattle.std.specs.Prelude.{◌≡◌, ◌≤◌, ◌<◌, ◌*◌, ◌+◌, ◌^◌, ◌++◌, ◌∷◌, [], ℕ, ℤ, length, map, take, drop, slice_index_or, vec_len, All, Decides, IfOk, IsOk, MatchOption, OnOk, OnErr};
 ghost use Rattle.sw_table.specs.declared.row.Row.{Row};
 ghost use Rattle.sw_table.specs.Rows.{HasNoRow, IsRowAt, cell_of};
 ghost use Rattle.sw_table.specs.Exchanged.{with_exchanged};

@@ -1,13 +1,12 @@
 //! The tape.
 
-ghost use Rattle.std.specs.Prelude.{◌≡◌, ◌<◌, ◌≤◌, ◌+◌, ◌++◌, ◌∷◌, ◌||◌, [], List, length, map, vec_len, vec_capacity, MatchOption, MatchResult, OnErr, OnOk, IfErr, IfOk, slice_get, slice_set, Some};
+ghost use Rattle.std.specs.Prelude.{◌≡◌, ◌<◌, ◌≤◌, ◌+◌, ◌++◌, ◌∷◌, [], List, length, map, vec_len, vec_capacity, MatchOption, MatchResult, OnErr, OnOk, IfErr, IfOk, slice_get, slice_set, Some};
 ghost use Rattle.sw_query.specs.Outcomes.{IsRefused};
-ghost use Rattle.sw_query.specs.declared.bound.Bound.{Bound};
 ghost use Rattle.sw_table.specs.declared.row.Row.{Row};
 ghost use Rattle.sw_query.specs.declared.refusal.Refusal.TheVariants.{NoMemory, TooMany};
 ghost use Rattle.sw_kernel.specs.Replay.{Step, loaded};
 ghost use Rattle.sw_kernel.specs.Tapes.{IsRising, IsTape, MayFollow, count_from, is_marked, peak_from};
-ghost use Rattle.sw_tape.specs.Bounds.{AreJoinedBy, HasPieces, IsNearestAbove, IsNearestBelow, is_among};
+ghost use Rattle.sw_tape.specs.Bounds.{AreJoinedBy, HasPieces, IsNearestAbove, IsNearestBelow};
 ghost use Rattle.sw_tape.specs.declared.entry.Entry.TheVariants.{Remove};
 ghost use Rattle.sw_tape.specs.Entries.{IsKept, step_of};
 ghost use Rattle.sw_tape.specs.Restart.{AreOneLoad, IsCountOf, first_rows, live_load};

@@ -1,6 +1,6 @@
 //! The one list of batches of updates, of which the code keeps the number of updates alone, and its beginnings.
 
-ghost use Rattle.std.specs.Prelude.{◌≡◌, ◌+◌, ◌==◌, ◌<◌, ◌≤◌, ◌^◌, ◌++◌, ◌∷◌, [], length, MatchBool};
+ghost use Rattle.std.specs.Prelude.{◌≡◌, ◌+◌, ◌<◌, ◌≤◌, ◌^◌, ◌++◌, ◌∷◌, [], length, MatchBool};
 ghost use mathlib.Core.List.{IsPrefix};
 ghost use Rattle.sw_versions.specs.Lists.{BeginsOr, IsLonger};
 ghost use Rattle.sw_versions.specs.Rules.{head_of, updates_in};

@@ -8,7 +8,7 @@ ghost use Rattle.sw_query.specs.declared.bound.Bound.TheVariants.{Before, After}
 ghost use Rattle.sw_table.specs.declared.row.Update.TheVariants.{Insert, Remove};
 ghost use Rattle.sw_kernel.specs.Tapes.{peak_from};
 ghost use Rattle.sw_map.specs.declared.tail.Tail.TheVariants.{Key, Cell};
-ghost use Rattle.sw_map.specs.Held.{begun, place_of};
+ghost use Rattle.sw_map.specs.Held.{place_of};
 ghost use Rattle.sw_map.specs.Lawful.{IsLawful, rows_by};
 ghost use Rattle.sw_set.specs.Needs.{edge, head_in, lower_from, needed, touches, upper_upto};
 ghost use Rattle.sw_set.specs.Prepared.{cells_for, stands_if};

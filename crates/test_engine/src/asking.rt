@@ -1,6 +1,6 @@
 //! Sessions that are asked for one by one, viewers beside them, boxes that are dropped, and tickets that are missing.
 
-ghost use Rattle.std.specs.Prelude.{◌≡◌, ◌<◌, ◌≤◌, length, IfOk};
+ghost use Rattle.std.specs.Prelude.{◌≡◌, ◌<◌, length, IfOk};
 ghost use Rattle.sw_query.specs.Scan.{AsksBelow};
 
 use crate::boxes::{Refusing, refusing};

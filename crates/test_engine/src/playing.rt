@@ -1,7 +1,7 @@
 //! Sessions and viewers on threads of their own: a session for each block of calls, of which the second may wait until a call of the
 //! first is under way; boxes that come and go meanwhile; and viewers that look.
 
-ghost use Rattle.std.specs.Prelude.{◌≡◌, ◌<◌, ◌≤◌, true, length, All, IfOk};
+ghost use Rattle.std.specs.Prelude.{◌≡◌, ◌<◌, ◌≤◌, length, All, IfOk};
 ghost use Rattle.sw_rows.specs.declared.table.TheConstants.{MOST_ROWS};
 ghost use Rattle.sw_query.specs.Scan.{AsksBelow};
 ghost use Rattle.sw_spine.specs.History.{CallsBelow, IsLegal};

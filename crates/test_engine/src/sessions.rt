@@ -1,6 +1,6 @@
 //! What sessions are told, and what the record keeps; what sessions make of the maps of heads; and what viewers see beside them.
 
-ghost use Rattle.std.specs.Prelude.{◌≡◌, ◌<◌, ◌≤◌, All, IfOk, length};
+ghost use Rattle.std.specs.Prelude.{◌<◌, ◌≤◌, All, IfOk, length};
 ghost use Rattle.sw_query.specs.Scan.{AsksBelow};
 ghost use Rattle.sw_rows.specs.declared.table.TheConstants.{MOST_ROWS};
 ghost use Rattle.sw_spine.specs.History.{CallsBelow, IsLegal};

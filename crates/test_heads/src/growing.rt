@@ -1,7 +1,7 @@
 //! Heads under updates: keys are given out in order, and nothing is received or asked that a head may not receive or be
 //! asked.
 
-ghost use Rattle.std.specs.Prelude.{◌≡◌, ◌∷◌, [], length, replicate, true, false, IfErr, IfOk, IfSome, MatchResult, None};
+ghost use Rattle.std.specs.Prelude.{◌≡◌, ◌∷◌, length, replicate, true, false, IfErr, IfOk, IfSome, MatchResult, None};
 ghost use Rattle.sw_query.specs.declared.refusal.Refusal.TheVariants.{NoMemory};
 ghost use Rattle.sw_query.specs.Scan.{AsksBelow, answer};
 ghost use Rattle.sw_table.specs.Updates.{has_key, rows_of};

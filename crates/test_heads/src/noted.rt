@@ -1,6 +1,5 @@
 //! A map that grows in place and notes how it began and grew.
 
-ghost use Rattle.std.specs.Prelude.{◌≡◌};
 
 use std::sync::Arc;
 use std::sync::atomic::{AtomicU64, Ordering};

@@ -1,5 +1,5 @@
 //! Two counts under one lock, each tied to a book of its own, and two threads that count.
-ghost use Rattle.std.specs.Prelude.{◌≡◌, ℕ, ◌+◌, ◌^◌, ◌<◌, ◌≤◌, [], ◌∷◌, false};
+ghost use Rattle.std.specs.Prelude.{◌≡◌, ℕ, ◌+◌, ◌^◌, ◌<◌, [], ◌∷◌, false};
 
 use std::marker::{Brand, Model, PhantomData};
 use std::snapshot::Snapshot;

@@ -1,6 +1,6 @@
 //! Tokens at several types, and two threads whose counts they tie.
 
-ghost use Rattle.std.specs.Prelude.{◌≡◌, ◌≢◌, ◌<◌, ◌^◌, [], ◌∷◌, false};
+ghost use Rattle.std.specs.Prelude.{◌≡◌, ◌≢◌, [], ◌∷◌, false};
 
 use crate::hall::count_both;
 use std::marker::Brand;

@@ -1,5 +1,5 @@
 -- The parts of an explanation, put together.
-use Rattle.std.proofs.Common.{◌≡◌, refl, sym, subst, inr, ℕ, ◌-◌, ◌<◌, ◌≤◌, List, ◌++◌, length, get_or, slice_get, Option, Some, Err, arith}
+use Rattle.std.proofs.Common.{◌≡◌, refl, sym, subst, inr, ℕ, ◌-◌, ◌<◌, ◌≤◌, List, ◌++◌, length, get_or, Option, Err, arith}
 use Rattle.std.proofs.lemmas.Option.{slice_get_read}
 use Rattle.sw_rows.specs.Header.{Column}
 use Rattle.sw_rows.specs.Gives.{Raised}

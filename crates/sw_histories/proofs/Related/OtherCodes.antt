@@ -1,14 +1,12 @@
 -- Two tables whose texts are the same under other codes reply the same lines.
-use Rattle.std.proofs.Common.{◌≡◌, ◌∙◌, ap, ap₂, sym, All, codes, decimal, refl, subst, ℕ, ℤ, pos, negsuc, zero, suc, ◌+◌, ◌==◌, Bool, true, false, not, cond, ◌&&◌, ◌||◌, List, [], ◌∷◌, ◌++◌, length, map, filter, get_or, arith, append_assoc, Option, Some, None, ltb, leb}
+use Rattle.std.proofs.Common.{◌≡◌, ◌∙◌, ap, ap₂, sym, All, codes, decimal, refl, subst, ℕ, ℤ, pos, negsuc, zero, suc, ◌+◌, ◌==◌, Bool, true, false, not, cond, ◌&&◌, List, [], ◌∷◌, ◌++◌, length, map, arith, Option, Some, None, ltb, leb}
 use Rattle.std.specs.List.{list_all}
 use Rattle.std.specs.Prelude.{unwrap_or}
 use Rattle.std.proofs.lemmas.Bool.Decides.{Decides-eqb, nat_tests, same_from_decides}
-use Rattle.std.proofs.lemmas.List.{append-nil, length-map}
+use Rattle.std.proofs.lemmas.List.{length-map}
 use Rattle.std.proofs.lemmas.Option.{none-some, same_Some}
 use Rattle.std.specs.Bool.{Decides}
-use Rattle.sw_table.specs.Updates.{has_key, rows_of, without}
 use Rattle.sw_table.specs.declared.row.Row.{Row}
-use Rattle.sw_table.specs.declared.row.Update.{Update}
 use Rattle.sw_table.specs.declared.row.Update.TheVariants as update
 use Rattle.sw_query.specs.Bounds.{bound_below, greater, is_above, is_below, is_left, is_within, lesser}
 use Rattle.sw_rows.specs.Domains.{Domain, IsOver, is_of_texts, over}

@@ -1,5 +1,5 @@
 -- The file of a run's record is read as a record whose texts have the codes that reading gives them.
-use Rattle.std.proofs.Common.{◌≡◌, ◌∙◌, ap, ap₂, sym, refl, subst, ℕ, ℤ, pos, zero, suc, ◌+◌, ◌-◌, ◌<◌, ◌≤◌, ◌==◌, ◌&&◌, ◌||◌, Bool, true, false, not, true≢false, if◌then◌else◌, cond, All, List, [], ◌∷◌, ◌++◌, append_assoc, length, map, get_or, replicate, arith, Option, Some, None, Ok, IsSome, is_some, le-leb, nat_le}
+use Rattle.std.proofs.Common.{◌≡◌, ◌∙◌, ap, ap₂, sym, refl, subst, ℕ, ℤ, pos, suc, ◌+◌, ◌-◌, ◌≤◌, ◌==◌, ◌&&◌, ◌||◌, Bool, true, false, not, true≢false, if◌then◌else◌, cond, All, List, [], ◌∷◌, ◌++◌, length, map, replicate, arith, Some, None, Ok, IsSome, is_some, le-leb, nat_le}
 use Rattle.std.specs.Prelude.{filter_map, option_map, unwrap_or}
 use Rattle.std.specs.List.{list_all}
 use Rattle.std.proofs.lemmas.Bool.{and_parts}
@@ -7,36 +7,33 @@ use Rattle.std.proofs.lemmas.List.{length-map}
 use Rattle.std.proofs.lemmas.List.Elements.{All-cons, All-head, All-nil, All-tail}
 use Rattle.std.proofs.lemmas.List.Folds.{list_all-append}
 use Rattle.serde_json.specs.Data.{Data, string}
-use Rattle.serde_json.specs.View.{items_of}
-use Rattle.sw_table.specs.Updates.{rows_of}
 use Rattle.sw_table.specs.declared.row.Row.{Row}
 use Rattle.sw_rows.specs.Domains.{Domain, IsOver, over}
 use Rattle.sw_rows.specs.Domains as kind
 use Rattle.sw_rows.specs.Header.{Column, IsSchema, has_texts, holding, kinds_of, texts_of}
-use Rattle.sw_query.specs.Scan.{cell_of}
 use Rattle.sw_rows.specs.Tables.{padded, row_of}
-use Rattle.sw_rows.specs.Texts.{AreTexts, code_of, has_text, is_text, text_at, text_of, with_texts}
+use Rattle.sw_rows.specs.Texts.{AreTexts, has_text, is_text, text_at, text_of, with_texts}
 use Rattle.sw_query.specs.declared.query.Call.{Call}
 use Rattle.sw_query.specs.declared.query.Call.TheVariants.{Select, Insert, Delete, DeleteWhere}
 use Rattle.sw_rows.specs.declared.table.TheConstants.{MOST_ROWS}
 use Rattle.sw_rows.proofs.Schemas.ColumnLemmas.{no_texts}
-use Rattle.sw_rows.proofs.Schemas.DomainLaws.{holding_again, holding_of_texts, schema_holding}
+use Rattle.sw_rows.proofs.Schemas.DomainLaws.{holding_again, schema_holding}
 use Rattle.sw_rows.proofs.Schemas.TextLaws.{code_only, code_there, text_sound, with_more}
 use Rattle.sw_rows.proofs.Schemas.TextLemmas.{texts_sound}
 use Rattle.sw_lang.proofs.Known.Knowing.{line_sound, texts_known}
-use Rattle.sw_lang.specs.Grammar.{IsCall, IsLine}
+use Rattle.sw_lang.specs.Grammar.{IsLine}
 use Rattle.sw_lang.specs.Learning.{quoted_text, quoted_texts, texts_in_line}
 use Rattle.sw_lang.specs.PrintedCalls.{call_text}
 use Rattle.sw_lang.specs.Replies.{reply_lines}
 use Rattle.sw_lang.specs.Tokens.{Tok, comma, op, quoted, stray, tokens, word}
 use Rattle.sw_spine.specs.History.{History, IsLegal, entry, is_select}
-use Rattle.sw_spine.specs.Table.{inserts, is_numbered, opened, row}
+use Rattle.sw_spine.specs.Table.{is_numbered, opened, row}
 use Rattle.sw_spine.specs.declared.history.Entry.{Entry}
 use Rattle.sw_spine.specs.declared.history.State.{State}
 use Rattle.sw_spine.specs.declared.history.State.TheVariants as state
 use Rattle.sw_spine.specs.declared.spine.TheConstants.{MOST_ENTRIES, MOST_SESSIONS}
 use Rattle.sw_spine.proofs.StoreLemmas.{inserts_opened, rows_of_opened}
-use Rattle.sw_histories.specs.ReadBack.{AreCells, HasCells, IsCalled, IsCellOf, IsOfRun, IsStateOf, in_lines, texts_in_file}
+use Rattle.sw_histories.specs.ReadBack.{AreCells, HasCells, IsCalled, IsCellOf, IsOfRun, IsStateOf, in_lines}
 use Rattle.sw_histories.specs.RecordReading.{may_stand, record_at, row_texts, rows_after, rows_in, rows_up_to, state_of, text_in}
 use Rattle.sw_histories.proofs.Found.ReadParts.{AreReadEntries, IsReadEntry, IsReadRecord}
 use Rattle.sw_histories.specs.RecordText.{cell_data, cells_data, entry_data, format_of, is_delete_where, list_data, record_data, record_text, row_data, state_data}

@@ -1,5 +1,5 @@
 -- A history is legal where its texts have other codes.
-use Rattle.std.proofs.Common.{◌≡◌, ◌∙◌, ap, ap₂, sym, refl, subst, ℕ, ℤ, pos, ◌+◌, ◌==◌, Bool, true, false, not, cond, All, List, [], ◌∷◌, ◌++◌, length, map, append_assoc, append-nil, replicate, ◌-◌}
+use Rattle.std.proofs.Common.{◌≡◌, ◌∙◌, ap, sym, refl, subst, ℕ, ◌+◌, ◌==◌, Bool, true, false, not, cond, All, List, [], ◌∷◌, ◌++◌, append_assoc, append-nil, ◌-◌}
 use Rattle.sw_table.specs.Updates.{has_key, rows_of, without}
 use Rattle.sw_table.specs.declared.row.Row.{Row}
 use Rattle.sw_table.specs.declared.row.Update.{Update}
@@ -13,7 +13,7 @@ use Rattle.sw_query.specs.declared.query.Call.TheVariants.{Select, Insert, Delet
 use Rattle.sw_query.specs.declared.reply.Reply.TheVariants as reply
 use Rattle.sw_lang.specs.Replies.{kinds_wanted, lines_of, reply_lines}
 use Rattle.sw_spine.specs.History.{Agrees, AllAgree, is_select}
-use Rattle.sw_spine.specs.Table.{inserts, removals, reply_to, row, update_by, updates_then}
+use Rattle.sw_spine.specs.Table.{inserts, removals, reply_to, row, updates_then}
 use Rattle.sw_spine.specs.declared.history.Entry.{Entry}
 use Rattle.sw_spine.specs.declared.history.State.{State}
 use Rattle.sw_spine.specs.declared.history.State.TheVariants as state

@@ -17,7 +17,7 @@ use Rattle.sw_query.specs.declared.query.Want.TheVariants.{Rows, Count, Sum, Min
 use Rattle.sw_lang.specs.Grammar.{IsCall, IsName, IsNames, IsTerm, IsTerms, IsValue, IsValues, IsWant, HasTerms, MoreValues}
 use Rattle.sw_lang.specs.Learning.{quoted_text, quoted_texts}
 use Rattle.sw_lang.specs.Replies.{kind_at}
-use Rattle.sw_lang.specs.Tokens.{Tok, op}
+use Rattle.sw_lang.specs.Tokens.{Tok}
 use Rattle.sw_lang.specs.declared.reading.term.Term.{Term}
 use Rattle.sw_lang.proofs.Known.Given.{AreIn, has_from_code}
 use Rattle.sw_histories.proofs.Related.OtherCodes.{Texts, own_texts}

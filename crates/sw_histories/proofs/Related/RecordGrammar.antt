@@ -9,14 +9,14 @@ use Rattle.std.proofs.lemmas.Bool.Decides.{Decides-int_eq, nat_tests}
 use Rattle.std.proofs.lemmas.List.{append-nil}
 use Rattle.std.proofs.lemmas.Option.{none-some, same_Some}
 use Rattle.std.proofs.lemmas.Slice.Eq.{bytes_eq-Decides}
-use Rattle.serde_json.specs.Data.{Data, Items, Members, array, boolean, float, item, negative, no_items, null, number, object, string, unsigned}
+use Rattle.serde_json.specs.Data.{Data, Items, array, boolean, float, item, negative, no_items, null, number, object, string, unsigned}
 use Rattle.serde_json.specs.Events.{members_len}
 use Rattle.serde_json.specs.Find.{as_array, as_i64, as_number, as_str, as_u64, get}
 use Rattle.serde_json.specs.View.{items_of}
 use Rattle.sw_rows.specs.Domains.{Domain}
 use Rattle.sw_rows.specs.Domains as kind
 use Rattle.sw_rows.specs.Header.{Column, Fault as TableFault, header_of, kinds_of}
-use Rattle.sw_rows.specs.Spelling.{WritesCell, WritesHeader}
+use Rattle.sw_rows.specs.Spelling.{WritesHeader}
 use Rattle.sw_rows.specs.Tables.{padded, row_of}
 use Rattle.sw_rows.specs.Texts.{code_of, is_text}
 use Rattle.sw_query.specs.declared.query.Call.{Call}
@@ -30,10 +30,10 @@ use Rattle.sw_spine.specs.declared.history.Entry.{Entry}
 use Rattle.sw_spine.specs.declared.history.State.{State}
 use Rattle.sw_spine.specs.declared.history.State.TheVariants as state
 use Rattle.sw_spine.specs.declared.spine.TheConstants.{MOST_SESSIONS}
-use Rattle.sw_histories.specs.RecordReading.{array_at, cell_in, cells_after, cells_of, entry_learned, format_in, has_members, header_in, in_range, items_list, limit_in, may_stand, number_at, number_in, of_kind, record_at, row_in, row_learned, rows_after, rows_in, rows_up_to, session_in, state_in, state_of, text_at, text_in, texts_after, texts_at, with_row, word_in}
+use Rattle.sw_histories.specs.RecordReading.{array_at, cell_in, cells_after, cells_of, entry_learned, has_members, header_in, in_range, items_list, number_at, of_kind, record_at, row_in, row_learned, rows_after, rows_in, rows_up_to, state_of, text_at, text_in, texts_after, texts_at, with_row, word_in}
 use Rattle.sw_histories.specs.RecordRelation.{AreCells, AreEntries, AreRows, HasMembers, IsCell, IsEntry, IsRecord, IsReply, IsRow, IsWhole, IsWithin, texts_among}
 use Rattle.sw_histories.specs.RecordText.{is_delete_where, least_format, list_data, texts_data}
-use Rattle.sw_histories.proofs.Found.ReadParts.{AreReadEntries, IsReadEntry, IsReadRecord}
+use Rattle.sw_histories.proofs.Found.ReadParts.{AreReadEntries, IsReadEntry}
 use Rattle.sw_histories.proofs.Back.RecordLaws.{record_found, record_only}
 use Rattle.sw_histories.proofs.Found.RecordReadingLemmas.{list_items, map_some}
 

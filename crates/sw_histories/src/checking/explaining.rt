@@ -1,6 +1,6 @@
 //! Why a history is not legal.
 
-ghost use Rattle.std.specs.Prelude.{◌≡◌, ◌++◌, ◌-◌, ◌<◌, ◌≤◌, length, map, string_bytes, IfOk, IsOkUnless};
+ghost use Rattle.std.specs.Prelude.{◌≡◌, ◌-◌, ◌<◌, ◌≤◌, length, map, string_bytes, IfOk, IsOkUnless};
 ghost use Rattle.sw_lang.specs.Sinks.{Writes};
 ghost use Rattle.sw_spine.specs.Checks.{IsExpectedAt};
 ghost use Rattle.sw_histories.specs.Explained.{Explains, ExplainsFile, JudgesExplained, ShowsParting, ShowsPartingOf, entry_line, line_at, said};

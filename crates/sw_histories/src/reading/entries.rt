@@ -1,8 +1,7 @@
 //! Entries of a history.
 
-ghost use Rattle.std.specs.Prelude.{◌≡◌, ◌≤◌, [], Some, None, length, map, option_map, string_bytes, IfErr, IfOk, IsOkUnless, OnOk};
+ghost use Rattle.std.specs.Prelude.{◌≡◌, ◌≤◌, [], length, map, option_map, string_bytes, IfErr, IfOk, IsOkUnless, OnOk};
 ghost use Rattle.json.specs.Lex.{tokens};
-ghost use Rattle.serde_json.specs.Data.{object};
 ghost use Rattle.serde_json.specs.View.{view};
 ghost use Rattle.sw_lang.specs.Learning.{learned};
 ghost use Rattle.sw_spine.specs.History.{AllBelow, CallsBelow};
@@ -10,7 +9,7 @@ ghost use Rattle.sw_spine.specs.declared.spine.TheConstants.{MOST_ENTRIES};
 ghost use Rattle.sw_histories.specs.FromTokens.{AreFew};
 ghost use Rattle.sw_histories.specs.Outlines.{ReadsEntries, values_at, values_in};
 ghost use Rattle.sw_histories.specs.Told.{Reads, TellsText};
-ghost use Rattle.sw_histories.specs.RecordReading.{call_in, entry_in, entry_learned, has_call, has_members, may_stand, number_at, state_in, text_at, texts_after, word_in};
+ghost use Rattle.sw_histories.specs.RecordReading.{call_in, entry_in, entry_learned, has_call, may_stand, state_in, texts_after, word_in};
 
 use super::no_history;
 use crate::reading::members::{has_members, number_at, text_at, texts};

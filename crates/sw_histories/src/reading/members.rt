@@ -1,7 +1,6 @@
 //! Members of an object, and arrays of texts.
 
-ghost use Rattle.std.specs.Prelude.{◌≡◌, [], Some, None, map, option_and_then, option_map, IfOk};
-ghost use Rattle.serde_json.specs.Data.{object};
+ghost use Rattle.std.specs.Prelude.{◌≡◌, [], map, option_and_then, option_map, IfOk};
 ghost use Rattle.serde_json.specs.View.{view};
 ghost use Rattle.sw_histories.specs.RecordReading.{array_at, has_members, in_range, number_at, text_at, texts_after};
 

@@ -3,17 +3,16 @@
 ghost use Rattle.std.specs.Prelude.{◌≡◌, ◌≤◌, ℕ, List, [], Some, None, true, if◌then◌else◌, filter_map, map, option_map, IfOk, IfSome, OnOk};
 ghost use Rattle.std.specs.List.{cons_option};
 ghost use Rattle.json.specs.Lex.{tokens};
-ghost use Rattle.serde_json.specs.Data.{object};
 ghost use Rattle.serde_json.specs.View.{view};
 ghost use Rattle.sw_rows.specs.Domains.{domain};
 ghost use Rattle.sw_rows.specs.Domains as kind;
 ghost use Rattle.sw_rows.specs.Header.{has_texts, kinds_of, texts_of};
 ghost use Rattle.sw_rows.specs.Texts.{is_text};
 ghost use Rattle.sw_rows.specs.declared.table.TheConstants.{MOST_ROWS};
-ghost use Rattle.sw_lang.specs.Learning.{knowing, learned};
+ghost use Rattle.sw_lang.specs.Learning.{knowing};
 ghost use Rattle.sw_histories.specs.FromTokens.{AreCounted, AreFew};
 ghost use Rattle.sw_histories.specs.Outlines.{ReadsRows, ReadsRowsUpTo, values_at, values_in};
-ghost use Rattle.sw_histories.specs.RecordReading.{array_at, cell_in, cells_of, header_in, number_in, of_kind, row_learned, row_read, text_in};
+ghost use Rattle.sw_histories.specs.RecordReading.{cell_in, cells_of, header_in, number_in, of_kind, row_learned, row_read, text_in};
 
 use crate::reading::members::{array_at, texts};
 use crate::reading::outline::{ItemsAt, enter};

@@ -1,5 +1,5 @@
 -- What a line asks of texts is equality, and a row that it inserts has codes of texts.
-use Rattle.std.proofs.Common.{◌≡◌, ap, sym, refl, subst, ℕ, zero, suc, ℤ, pos, ◌<◌, List, [], ◌∷◌, length, get_or, map, arith, Option, Some, None, true, All}
+use Rattle.std.proofs.Common.{◌≡◌, sym, refl, subst, ℕ, zero, suc, ℤ, pos, ◌<◌, List, [], ◌∷◌, length, get_or, map, arith, Option, Some, None, true}
 use Rattle.std.specs.Prelude.{IsSome}
 use Rattle.std.proofs.lemmas.List.{length-map}
 use Rattle.sw_rows.specs.Domains.{Domain, is_of_texts}

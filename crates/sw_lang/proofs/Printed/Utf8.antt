@@ -1,7 +1,7 @@
 -- A text in quotes is UTF-8 as the text is, and has just the text's other bytes.
-use Rattle.std.proofs.Common.{◌≡◌, ◌∙◌, ap, sym, refl, subst, ℕ, ◌==◌, ◌<◌, ◌≤◌, ◌+◌, ◌/◌, ◌%◌, ◌&&◌, Bool, true, false, not, cond, List, [], ◌∷◌, ◌++◌, arith, codes, IsUtf8, true≢false, ltb-true, ltb-false, nat_lt}
+use Rattle.std.proofs.Common.{◌≡◌, ◌∙◌, ap, sym, refl, subst, ℕ, ◌==◌, ◌≤◌, ◌+◌, ◌/◌, ◌%◌, ◌&&◌, Bool, true, false, not, cond, List, [], ◌∷◌, ◌++◌, arith, IsUtf8, true≢false, ltb-false, nat_lt}
 use Rattle.std.proofs.Math.Utf8.{encode, encodes, scalar, scalars}
-use Rattle.std.proofs.lemmas.Bool.{and_from, and_parts, cond-false, cond-true}
+use Rattle.std.proofs.lemmas.Bool.{and_from, and_parts, cond-false}
 use Rattle.std.proofs.lemmas.Bool.Decides.{nat_tests}
 use Rattle.std.proofs.lemmas.Str.{IsUtf8-append, IsUtf8-encode, IsUtf8-nil}
 use Rattle.std.specs.List.{list_all}

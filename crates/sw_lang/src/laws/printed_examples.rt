@@ -2,7 +2,7 @@
 //!
 //! Each function here does nothing. Its contract is the example, and the check computes it.
 
-ghost use Rattle.std.specs.Prelude.{◌≡◌, ◌∷◌, ◌++◌, [], codes, negsuc, pos};
+ghost use Rattle.std.specs.Prelude.{◌≡◌, ◌∷◌, [], codes, negsuc, pos};
 ghost use Rattle.sw_lang.specs.PrintedCalls.{call_text};
 ghost use Rattle.sw_lang.specs.PrintedExamples.{abc, asking, asking_where, cond, priced, row, between, cheap_sum, deleting_by_two, equal_to, inserting, rows_by_two, short_rows, rows_bytes, two_rows};
 ghost use Rattle.sw_rows.specs.Domains as kind;

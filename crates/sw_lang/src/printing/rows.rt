@@ -1,6 +1,6 @@
 //! Rows go out as lines.
 
-ghost use Rattle.std.specs.Prelude.{◌≡◌, ◌++◌, ◌∷◌, codes, decimal, map};
+ghost use Rattle.std.specs.Prelude.{◌++◌, ◌∷◌, codes, decimal, map};
 ghost use Rattle.sw_lang.specs.Replies.{cell_text, kind_at, more_cells, rows_line, kinds_at, row_shown, rows_text, shown, rows_shown};
 ghost use Rattle.sw_lang.specs.Sinks.{Wrote};
 ghost use Rattle.sw_lang.specs.Shown.{AreSound, domain_of};

@@ -1,13 +1,13 @@
 //! Where heads are cut before the first query.
 
-ghost use Rattle.std.specs.Prelude.{◌≡◌, ◌<◌, ◌++◌, ◌∷◌, ◌==◌, [], List, ℤ, length, position, replicate, int_lt, slice_index_or, slice_set, option_map, IfOk, IfSome, OnOk};
+ghost use Rattle.std.specs.Prelude.{◌≡◌, ◌<◌, ◌++◌, ◌∷◌, [], List, ℤ, length, position, replicate, int_lt, slice_set, option_map, IfOk, IfSome, OnOk};
 ghost use Rattle.std.specs.List.{list_all, slice_split};
 ghost use Rattle.sw_lang.specs.Shown.{AreSound, domain_of};
 ghost use Rattle.sw_rows.specs.Header.{IsSchema};
 ghost use Rattle.sw_lang.specs.Agreement.{AnswersRelated};
 ghost use Rattle.sw_lang.specs.Cuts.{FitCuts, IsCuts, cuts_on};
-ghost use Rattle.sw_lang.specs.CutsReading.{before, cut_name, cut_split, cut_value, cuts_after, cuts_at, equals_at, is_divider, no_cuts, parts_after, with_cut, with_room};
-ghost use Rattle.sw_lang.specs.Reading.{attr_of, refused, Answers, Gives};
+ghost use Rattle.sw_lang.specs.CutsReading.{before, cut_name, cut_split, cut_value, cuts_at, equals_at, is_divider, parts_after, with_cut};
+ghost use Rattle.sw_lang.specs.Reading.{refused, Answers, Gives};
 
 use crate::domain::{AttrValues, attr_values};
 use crate::fault::{Fault, ParseError, bad};

@@ -1,9 +1,9 @@
 //! The call of a line.
 
-ghost use Rattle.std.specs.Prelude.{◌≡◌, ◌<◌, ◌≤◌, [], ℤ, List, length, IfOk, IfSome, ◌==◌};
+ghost use Rattle.std.specs.Prelude.{◌≡◌, ◌<◌, ℤ, List, length, IfOk, IfSome, ◌==◌};
 ghost use Rattle.sw_lang.specs.Shown.{AreSound, domain_of};
 ghost use Rattle.sw_lang.specs.Agreement.{AnswersRelated};
-ghost use Rattle.sw_lang.specs.Reading.{aggregate_at, asked, call_at, call_of, cells_at, delete_at, delete_key, delete_where, first_by, insert_at, is_comment, line_at, name_of, names_at, nothing_left, past_comma, refusal_of, refusal_over_known, refused, refused_over_known, select_at, term_at, terms_at, where_at, Answers, Gives, Tells, TellsNext, TellsRest};
+ghost use Rattle.sw_lang.specs.Reading.{aggregate_at, asked, call_at, call_of, cells_at, delete_at, delete_key, delete_where, insert_at, is_comment, line_at, names_at, nothing_left, past_comma, refusal_of, refusal_over_known, refused, refused_over_known, select_at, term_at, terms_at, where_at, Answers, Gives, Tells, TellsNext, TellsRest};
 ghost use Rattle.sw_lang.specs.Tokens.{tok, tokens};
 ghost use Rattle.sw_lang.specs.Grammar.{IsLine};
 ghost use Rattle.sw_lang.specs.Fits.{FitsCall};

@@ -1,6 +1,6 @@
 //! Rows by place, some of them live.
 
-ghost use Rattle.std.specs.Prelude.{◌≡◌, ◌<◌, ℕ, Bool, List, length, replicate, slice_index_or, true, false};
+ghost use Rattle.std.specs.Prelude.{◌≡◌, ◌<◌, Bool, List, length, replicate, slice_index_or, true, false};
 ghost use Rattle.sw_query.specs.Scan.{cell_of};
 ghost use Rattle.sw_table.specs.declared.row.Row.{Row};
 

@@ -5,7 +5,7 @@ use Rattle.std.proofs.lemmas.List.{drop_all, drop_more, length-map}
 use Rattle.std.proofs.lemmas.List.Elements.{All-cons, All-head, All-tail}
 use Rattle.std.proofs.lemmas.Option.{slice_get-get_or, none-some, same_Some, slice_get-map, slice_get_within}
 use Rattle.std.specs.List.{list_all, list_any, position_or_len}
-use Rattle.sw_rows.specs.Domains.{Domain, IsDomain, IsOver, domain, is_of_texts, kind_in, over, under}
+use Rattle.sw_rows.specs.Domains.{Domain, IsDomain, IsOver, domain, is_of_texts, over, under}
 use Rattle.sw_rows.specs.Domains as kind
 use Rattle.sw_rows.specs.Header.{AreColumns, Column, IsSchema, has_texts, holding, is_known, is_name, kinds_of, names_differ, names_of, texts_of, texts_or}
 use Rattle.sw_rows.specs.Texts.{AreTexts}

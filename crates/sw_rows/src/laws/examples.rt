@@ -6,7 +6,7 @@ ghost use Rattle.std.specs.Prelude.{◌≡◌, ◌++◌, ◌∷◌, ◌^◌, ◌
 ghost use Rattle.sw_query.specs.Bounds.{bound_below, greater, is_left, lesser};
 ghost use Rattle.sw_rows.specs.Cells.{cell_value};
 ghost use Rattle.sw_rows.specs.Domains as kind;
-ghost use Rattle.sw_rows.specs.Examples.{abc, asking, at_least, at_most, eight_columns, eight_names, four_rows, four_rows_bytes, four_rows_table, from_10_and_below_6, greatest_rows, less_than, lines_of, more_than, on, on_any_cell, row_comes, row_of_one, seven, shown, two_cities, under_abc, abc_of_kinds, four_rows_on, in_10_to_15, showing};
+ghost use Rattle.sw_rows.specs.Examples.{abc, asking, at_least, at_most, eight_columns, eight_names, four_rows, four_rows_bytes, four_rows_table, from_10_and_below_6, greatest_rows, less_than, lines_of, more_than, on, on_any_cell, row_comes, row_of_one, seven, two_cities, under_abc, abc_of_kinds, four_rows_on, in_10_to_15, showing};
 ghost use Rattle.sw_rows.specs.Header.{bad_table, column_of, header_of, is_name, too_many};
 ghost use Rattle.sw_query.specs.Scan.{answer};
 ghost use Rattle.sw_rows.specs.Tables.{table_in, table_of};

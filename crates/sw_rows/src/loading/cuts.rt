@@ -1,6 +1,6 @@
 //! Where the bytes of a table may be cut.
 
-ghost use Rattle.std.specs.Prelude.{◌≡◌, ◌<◌, ◌≤◌, ◌-◌, ◌/◌, ◌==◌, drop, get_or, length, take, true, IfSome};
+ghost use Rattle.std.specs.Prelude.{◌≡◌, ◌<◌, ◌≤◌, ◌-◌, ◌/◌, drop, get_or, length, take, true, IfSome};
 ghost use Rattle.std.specs.Thread.{IsSync};
 ghost use Rattle.sw_rows.specs.Parts.{AreRecordsOfBoth, IsKnownQuoteless, begins_plain, has_no_quote};
 

@@ -1,14 +1,13 @@
 //! A table that is read in parts, each by a thread of its own.
 
-ghost use Rattle.std.specs.Prelude.{◌≡◌, ◌<◌, ◌≤◌, ◌==◌, [], ℕ, Bool, true, false, length, Result, Ok, Err, IfOk, IfSome};
+ghost use Rattle.std.specs.Prelude.{◌≡◌, ◌<◌, ◌≤◌, [], ℕ, Bool, true, false, length, Ok, IfOk, IfSome};
 ghost use Rattle.std.specs.Thread.{IsSync};
-ghost use Rattle.csv.specs.Reading.{default_config, is_bom, records, strip_bom};
-ghost use Rattle.sw_rows.specs.Gives.{Fails, Gives};
-ghost use Rattle.sw_rows.specs.Header.{Fault, has_texts, header_of};
+ghost use Rattle.csv.specs.Reading.{is_bom, strip_bom};
+ghost use Rattle.sw_rows.specs.Gives.{Gives};
+ghost use Rattle.sw_rows.specs.Header.{has_texts};
 ghost use Rattle.sw_rows.specs.Parts.{GivesRows, IsKnownQuoteless, IsPart, MayBeRead, begins_plain, rows_behind, rows_of_part, FailsBehind, GivesBoth, IsHeader};
 ghost use Rattle.sw_rows.specs.Tables.{shown_packed, table_in};
 ghost use Rattle.sw_rows.specs.declared.table.TheConstants.{MOST_ROWS};
-ghost use Rattle.sw_table.specs.declared.row.Row.{Row};
 
 use crate::loading::cuts::{
     Cuts, HALVINGS, LEAST_HALVED, PARTS, begins_plain, cut, has_no_quote_in_halves,

@@ -1,6 +1,6 @@
 //! A table with attributes of texts that is read in parts, each by a thread of its own and with texts of its own.
 
-ghost use Rattle.std.specs.Prelude.{◌≡◌, ◌<◌, ℕ, List, true, length, map, Ok, IfSome};
+ghost use Rattle.std.specs.Prelude.{◌≡◌, ◌<◌, true, length, map, Ok, IfSome};
 ghost use Rattle.std.specs.Thread.{IsSync};
 ghost use Rattle.csv.specs.Reading.{default_config, records};
 ghost use Rattle.sw_rows.specs.Header.{has_texts, kinds_of};

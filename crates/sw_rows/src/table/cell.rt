@@ -1,6 +1,6 @@
 //! Cells: how a text is read as a number of a kind.
 
-ghost use Rattle.std.specs.Prelude.{[], ◌==◌, ◌<◌, position, length, IfSome, ◌≡◌, ◌≤◌, ◌+◌, ◌*◌, ◌^◌, ◌-◌};
+ghost use Rattle.std.specs.Prelude.{[], ◌==◌, ◌<◌, position, length, IfSome, ◌≡◌, ◌≤◌};
 ghost use Rattle.sw_rows.specs.Domains.{domain};
 ghost use Rattle.sw_rows.specs.Cells.{cell_value, decimal, digits_after, digits_number, fitting, magnitude, number_value, scaled, signed, flag_value, HasPlaces};
 

@@ -1,11 +1,10 @@
 //! The boxes of an area: they hold its maps, and each knows when its map was last used.
 
-ghost use Rattle.std.specs.Prelude.{◌≡◌, ◌<◌, ◌≤◌, [], false, true, List, length, map, All, IfErr, MatchOption, OnErr, remove, slice_index_or, slice_set};
+ghost use Rattle.std.specs.Prelude.{◌≡◌, ◌<◌, ◌≤◌, [], false, List, length, map, All, IfErr, MatchOption, OnErr, remove, slice_index_or, slice_set};
 ghost use Rattle.sw_table.specs.declared.row.Row.{Row};
 ghost use Rattle.sw_query.specs.Outcomes.{MemoryAside};
 ghost use Rattle.sw_kernel.specs.Replay.{Step};
 ghost use Rattle.sw_kernel.specs.Tapes.{peak_from};
-ghost use Rattle.sw_map.specs.declared.tail.Tail.TheVariants.{Key};
 ghost use Rattle.sw_map.specs.Held.{KeysFit, blank};
 ghost use Rattle.sw_map.specs.Lawful.{IsAligned, IsLawful};
 ghost use Rattle.sw_map.specs.Refusals.{HasBegunOr, HasGrownOr};

@@ -1,10 +1,10 @@
 //! Where a row's pair stands in the key map.
 
-ghost use Rattle.std.specs.Prelude.{◌≡◌, true, ℕ, ◌<◌, ◌≤◌, pos, length, slice_range, slice_index_or, unsigned_abs, Contains};
+ghost use Rattle.std.specs.Prelude.{◌≡◌, true, ◌<◌, ◌≤◌, pos, length, slice_range, slice_index_or, unsigned_abs, Contains};
 ghost use Rattle.sw_table.specs.declared.row.Row.{Row};
 ghost use Rattle.sw_kernel.specs.Arrangement.{joined};
 ghost use Rattle.sw_kernel.specs.Tapes.{IsTape, brought};
-ghost use Rattle.sw_map.specs.Held.{Held, pairs_in};
+ghost use Rattle.sw_map.specs.Held.{pairs_in};
 ghost use Rattle.sw_map.specs.Lawful.{IsAligned, rows_by};
 ghost use Rattle.sw_map.specs.declared.tail.Tail.TheVariants.{Key};
 ghost use Rattle.sw_set.specs.Choice.{side_in};

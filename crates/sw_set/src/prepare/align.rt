@@ -1,9 +1,9 @@
 //! Alignment: maps replay the tape up to its end.
 
-ghost use Rattle.std.specs.Prelude.{◌≡◌, ◌<◌, ◌≤◌, ◌↔◌, false, length, min, All, Contains, IsTrue, OnErr};
+ghost use Rattle.std.specs.Prelude.{◌≡◌, ◌<◌, ◌≤◌, ◌↔◌, length, min, All, Contains, IsTrue, OnErr};
 ghost use Rattle.sw_table.specs.declared.row.Row.{Row};
 ghost use Rattle.sw_kernel.specs.Replay.{Step};
-ghost use Rattle.sw_kernel.specs.Tapes.{IsTape, peak_from};
+ghost use Rattle.sw_kernel.specs.Tapes.{peak_from};
 ghost use Rattle.sw_map.specs.Held.{KeysFit};
 ghost use Rattle.sw_map.specs.Lawful.{IsAligned, IsLawful};
 ghost use Rattle.sw_query.specs.Outcomes.{MemoryAside};

@@ -4,7 +4,6 @@ ghost use Rattle.std.specs.Prelude.{ℕ, ◌<◌, map, length, slice_index_or, A
 ghost use Rattle.sw_query.specs.Scan.{column};
 ghost use Rattle.sw_set.specs.Choice.{AreStocked, HasCells, HasColumn, IsColumn, shown_rows};
 ghost use Rattle.sw_set.specs.Prepared.{IsReady};
-ghost use Rattle.sw_map.specs.declared.tail.Tail.TheVariants.{Key};
 
 use crate::reply::window::{Column, Side};
 use sw_map::{CrackerMap, Tail};

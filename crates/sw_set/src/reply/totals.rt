@@ -1,6 +1,6 @@
 //! The sum, the least and the greatest of what is chosen of a column.
 
-ghost use Rattle.std.specs.Prelude.{◌≡◌, List, ℤ, cond, length, pos};
+ghost use Rattle.std.specs.Prelude.{◌≡◌, cond, length, pos};
 ghost use Rattle.std.specs.Int.{int_max, int_min};
 ghost use Rattle.sw_query.specs.Scan.{total, least, greatest};
 ghost use Rattle.sw_set.specs.Choice.{chosen, either_or, IsSumOf};

@@ -1,7 +1,7 @@
 //! Columns of maps, read in blocks.
 
-ghost use Rattle.std.specs.Prelude.{◌≡◌, ℕ, ◌+◌, ◌-◌, ◌<◌, ◌≤◌, ℤ, pos, List, length, slice_range, slice_index_or};
-ghost use Rattle.sw_map.specs.Held.{Held, pairs_in};
+ghost use Rattle.std.specs.Prelude.{◌≡◌, ◌+◌, ◌<◌, ◌≤◌, ℤ, pos, List, length, slice_range, slice_index_or};
+ghost use Rattle.sw_map.specs.Held.{pairs_in};
 ghost use Rattle.sw_set.specs.Choice.{side_in};
 ghost use Rattle.sw_set.specs.declared.reply.window.Side.TheVariants.{Head};
 

@@ -1,4 +1,4 @@
-use Rattle.std.proofs.Common.{◌≡◌, subst}
+use Rattle.std.proofs.Common.{subst}
 use Rattle.sw_query.specs.declared.query.Call.{Call}
 use Rattle.sw_lang.specs.Fits.{FitsCall}
 use Rattle.cases_rows.proofs.Asks.{query_asks}

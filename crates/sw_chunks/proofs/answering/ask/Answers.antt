@@ -1,6 +1,5 @@
-use Rattle.std.proofs.Common.{rules, ◌≡◌, ◌<◌, List, length, subst, sym, ap, ◌∙◌}
+use Rattle.std.proofs.Common.{◌<◌, length, subst, sym, ap, ◌∙◌}
 use Rattle.sw_query.specs.Scan.{answer}
-use Rattle.sw_set.specs.Shelf.{AreaState, rows_in}
 use Rattle.sw_chunks.specs.Asked.{IsOneAsked}
 use Rattle.sw_chunks.proofs.Standing.{if_ok-more}
 use Rattle.sw_chunks.proofs.Steps.{asked-again, set-one}

@@ -1,4 +1,4 @@
-use Rattle.std.proofs.Common.{◌≡◌, ◌<◌, length, subst}
+use Rattle.std.proofs.Common.{subst}
 use Rattle.sw_set.specs.Prepared.{IsOneCleared, IsSameButBoxes}
 use Rattle.sw_set.specs.Shelf.{AreaState}
 use Rattle.sw_chunks.proofs.Asking.{get-any}

@@ -1,4 +1,4 @@
-use Rattle.std.proofs.Common.{◌≡◌, ◌≢◌, ◌<◌, ℕ, length, get_or, MatchOption}
+use Rattle.std.proofs.Common.{◌≢◌, ◌<◌, ℕ, length, get_or, MatchOption}
 use Rattle.sw_set.specs.Shelf.{AreaState}
 use Rattle.sw_chunks.specs.Cleared.{HasMap, IsAllBlank}
 use Rattle.sw_chunks.proofs.clearing.oldest_but.Given as goal

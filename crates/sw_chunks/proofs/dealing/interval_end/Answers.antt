@@ -1,4 +1,4 @@
-use Rattle.std.proofs.Common.{◌≡◌, ◌∙◌}
+use Rattle.std.proofs.Common.{◌∙◌}
 use Rattle.sw_chunks.proofs.Dealt.{looked-up}
 use Rattle.sw_chunks.proofs.dealing.interval_end.Goals as goal
 

@@ -1,4 +1,4 @@
-use Rattle.std.proofs.Common.{◌≡◌, ◌∙◌}
+use Rattle.std.proofs.Common.{◌∙◌}
 use Rattle.sw_chunks.proofs.Dealt.{no-start, starts-after}
 use Rattle.sw_chunks.proofs.dealing.interval_start.Goals as goal
 

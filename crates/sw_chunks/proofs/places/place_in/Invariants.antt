@@ -1,4 +1,4 @@
-use Rattle.std.proofs.Common.{◌≡◌, ◌+◌, ◌≤◌, drop}
+use Rattle.std.proofs.Common.{◌≡◌, ◌+◌, drop}
 use Rattle.sw_chunks.specs.Cuts.{place_in}
 use Rattle.sw_chunks.proofs.places.place_in.Given as goal
 

@@ -1,7 +1,4 @@
-use Rattle.std.proofs.Common.{rules, ◌≡◌, ◌<◌, ◌≤◌, ◌+◌, ◌++◌, ◌∷◌, ℕ, [], length, get_or, subst, sym, ap, ◌∙◌, arith, refl}
-use Rattle.sw_table.specs.declared.row.Update.{Update}
-use Rattle.sw_set.specs.Shelf.{AreaState}
-use Rattle.sw_chunks.proofs.Asking.{get-any}
+use Rattle.std.proofs.Common.{rules, ◌≡◌, ◌<◌, ℕ, length, get_or, subst, arith}
 use Rattle.sw_chunks.proofs.Sending.{next-may-at, next-room, sent-next-at}
 use Rattle.sw_chunks.proofs.routing.hand_all.Goals as goal
 

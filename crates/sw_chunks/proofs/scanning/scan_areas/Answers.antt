@@ -1,7 +1,7 @@
-use Rattle.std.proofs.Common.{rules, ◌≡◌, ◌<◌, ◌≤◌, ◌+◌, ℕ, List, length, get_or, [], subst, refl, sym, ap, ◌∙◌, arith, slice_set}
+use Rattle.std.proofs.Common.{◌≡◌, ◌<◌, length, get_or, [], ap, ◌∙◌, arith}
 use Rattle.sw_query.specs.Scan.{answer_over}
 use Rattle.sw_set.specs.Shelf.{AreaState}
-use Rattle.sw_chunks.specs.Asked.{AreAskedBefore, AreaFits, with_all, with_area}
+use Rattle.sw_chunks.specs.Asked.{with_all, with_area}
 use Rattle.sw_chunks.proofs.Asking.{get-any}
 use Rattle.sw_chunks.proofs.Steps.{fits-here, reply-next, scanned-next, untouched-next}
 use Rattle.sw_chunks.proofs.scanning.scan_areas.Goals as goal

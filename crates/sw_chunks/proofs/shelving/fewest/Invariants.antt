@@ -1,4 +1,4 @@
-use Rattle.std.proofs.Common.{◌≡◌, ◌<◌, ◌≤◌, ℕ, length, get_or}
+use Rattle.std.proofs.Common.{◌<◌, ◌≤◌, ℕ, length, get_or}
 use Rattle.sw_set.specs.Shelf.{AreaState}
 use Rattle.sw_chunks.proofs.shelving.fewest.Given as goal
 

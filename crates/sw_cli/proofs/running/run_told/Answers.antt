@@ -1,7 +1,7 @@
 use Rattle.std.proofs.Common.{◌≡◌, refl, subst, Ok}
 use Rattle.sw_cli.specs.Run.{Start, start_of}
 use Rattle.sw_cli.specs.Sides.{FailedInTurn, sink_seen, source_by}
-use Rattle.sw_cli.specs.Starts.{IfBoth, IsStart, RefusedFrom, start_seen}
+use Rattle.sw_cli.specs.Starts.{IfBoth, RefusedFrom, start_seen}
 use Rattle.sw_cli.specs.declared.running.Options.{Options}
 use Rattle.sw_cli.proofs.Ran.{begun_answers, keeps_same, refused_answers}
 use Rattle.sw_cli.proofs.running.run_told.Goals as goal

@@ -1,4 +1,3 @@
-use Rattle.std.proofs.Common.{ℕ}
 use Rattle.sw_cli.specs.Outcomes.{blocks_told, text_of}
 use Rattle.sw_cli.specs.Sides.{sink_seen}
 use Rattle.sw_cli.proofs.Going.{goes_out, served_err, served_ok}

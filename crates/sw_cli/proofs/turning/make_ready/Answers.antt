@@ -1,5 +1,4 @@
-use Rattle.std.proofs.Common.{rules, ◌≡◌, ◌∙◌, sym, ap, subst, ◌<◌, ◌≤◌, ℕ, List, length, arith, vec_capacity}
-use Rattle.sw_query.specs.declared.query.Call.{Call}
+use Rattle.std.proofs.Common.{rules, ◌≡◌, ◌∙◌, sym, ap, subst, ◌<◌, ℕ, length}
 use Rattle.sw_cli.specs.Run.{Start}
 use Rattle.sw_cli.specs.Script.{AreBlocks}
 use Rattle.sw_cli.proofs.turning.make_ready.Goals as goal

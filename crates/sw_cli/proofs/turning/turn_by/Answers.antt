@@ -1,4 +1,4 @@
-use Rattle.std.proofs.Common.{◌≡◌, ◌∙◌, sym, ap, List, length}
+use Rattle.std.proofs.Common.{◌∙◌, sym, ap, List, length}
 use Rattle.sw_query.specs.declared.query.Call.{Call}
 use Rattle.sw_cli.specs.Sides.{sink_seen}
 use Rattle.sw_cli.proofs.Going.{goes_over}

@@ -1,4 +1,4 @@
-use Rattle.std.proofs.Common.{◌≡◌, ◌∙◌, ◌∷◌, [], ap, rules, FitsSigned, List, Some, ℕ, ℤ, of_z, to_z, w64}
+use Rattle.std.proofs.Common.{◌≡◌, ◌∙◌, ◌∷◌, [], ap, rules, FitsSigned, Some, ℤ, of_z, to_z, w64}
 use Rattle.std.proofs.lemmas.Int.{to_z-of_z}
 use Rattle.sw_query.specs.declared.reply.Reply.TheVariants as reply
 use Rattle.sw_lang.specs.Replies.{cell_text, kind_at, reply_lines}

@@ -1,4 +1,4 @@
-use Rattle.std.proofs.Common.{rules, ◌≡◌, List, [], length, subst, sym, ap, refl, ◌∙◌}
+use Rattle.std.proofs.Common.{rules, ◌≡◌, List, length, subst, sym}
 use Rattle.sw_set.specs.Shelf.{AreaState}
 use Rattle.sw_set.specs.Prepared.{IsSameButBoxes}
 use Rattle.sw_chunks.specs.Cleared.{AreEach}

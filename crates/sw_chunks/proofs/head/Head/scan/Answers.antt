@@ -1,4 +1,4 @@
-use Rattle.std.proofs.Common.{rules, ◌≡◌, List, [], length, subst, sym, ap, refl, ◌∙◌}
+use Rattle.std.proofs.Common.{rules, ◌≡◌, List, [], length, subst, sym, ap, ◌∙◌}
 use Rattle.sw_query.specs.Scan.{answer, answer_over}
 use Rattle.sw_table.specs.Updates.{rows_of}
 use Rattle.sw_set.specs.Merged.{StandsForSame}

@@ -1,6 +1,5 @@
 use Rattle.std.proofs.Common.{◌≡◌, ◌++◌, ap, inl, length, refl, rules, string_bytes}
 use Rattle.sw_spine.specs.Checks.{IsFirstFault}
-use Rattle.sw_histories.specs.Explained.{Explains, IsExplained}
 use Rattle.sw_histories.specs.FileChecks.{illegal_line, legal_line}
 use Rattle.sw_histories.proofs.Found.ExplainedLemmas.{explained_fault, explained_part}
 use Rattle.sw_histories.proofs.checking.explaining.judge_explained.Goals as goal

@@ -1,4 +1,4 @@
-use Rattle.std.proofs.Common.{◌≡◌, ◌∙◌, ap, List, [], Some, ℕ}
+use Rattle.std.proofs.Common.{◌∙◌, ap, [], Some, ℕ}
 use Rattle.std.specs.Global.{Vec}
 use Rattle.std.specs.Io.KnownBytes.{append_known}
 use Rattle.csv.specs.Writing.{writer_under}

@@ -1,8 +1,7 @@
-use Rattle.std.proofs.Common.{◌≡◌, ◌≤◌, ℕ, List, [], ◌++◌, length, set, false, None, sym, ap, ◌∙◌, subst}
+use Rattle.std.proofs.Common.{◌≡◌, ◌≤◌, ℕ, [], length, set, false, None, sym, ap, ◌∙◌, subst}
 use Rattle.std.proofs.lemmas.List.{append-nil}
 use Rattle.sw_query.specs.declared.query.Call.TheVariants.{Select}
-use Rattle.sw_table.specs.declared.row.Update.{Update}
-use Rattle.sw_spine.specs.Books.{updates, reply_now, waits_for}
+use Rattle.sw_spine.specs.Books.{updates, waits_for}
 use Rattle.sw_engine.specs.Desk.{DeskState}
 use Rattle.sw_engine.specs.Published.{reply_after, session_shown}
 use Rattle.sw_engine.specs.Sessions.{Answers, Standing}

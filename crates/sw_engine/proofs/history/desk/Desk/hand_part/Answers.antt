@@ -1,5 +1,4 @@
-use Rattle.std.proofs.Common.{◌≡◌, ◌<◌, ◌≤◌, ◌+◌, ◌++◌, ℕ, List, length, take, set, false, refl, sym, ap, ◌∙◌, arith, subst}
-use Rattle.sw_table.specs.declared.row.Update.{Update}
+use Rattle.std.proofs.Common.{◌≡◌, ◌<◌, ◌≤◌, ◌+◌, ◌++◌, ℕ, length, take, set, false, refl, sym, ap, ◌∙◌, arith, subst}
 use Rattle.sw_spine.specs.Books.{Books, took, untaken, updates}
 use Rattle.sw_spine.specs.Receivable.{AreUpdates}
 use Rattle.sw_engine.specs.Desk.{DeskState, LatchState, received_by}
