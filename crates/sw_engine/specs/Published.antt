@@ -143,8 +143,8 @@ session_shown opening session b receipt missed = (
 abbrev pub answered_to : Shown → ℕ × List (Call × Reply)
 answered_to s = (s.0, s.1)
 
--- a call that is no select, or a meeting, where it is answered, gives the receipt of what is published then, which
--- begins with the one before; refused, the receipt stays
+-- a call that is no select, a publish, or a meeting, where it is answered, gives the receipt of what is published then,
+-- which begins with the one before; refused, the receipt stays
 abbrev pub GivesReceipt : {A E : Type 0} → Result A E → Receipted → Receipted → Type 0
 GivesReceipt told old new =
     MatchResult told

@@ -581,8 +581,8 @@ impl<J: Naming, M: CrackerMap, L: Latch<LatchedHead<J, M>>> Engine<J, M, L> {
     }
 }
 
-/// A session. Contracts see its number, the calls that were answered to it, and the list of updates that it has the
-/// receipt of, beside the one that its share shows as published.
+/// A session. Contracts see its number, the calls that were answered to it, its receipt, how often it could not publish,
+/// and the history as it was at its last visit: what was published, the entries, and how many sessions were made.
 pub struct Session<'e, J: Naming, M: CrackerMap, L: Latch<LatchedHead<J, M>> = AloneLatch<J, M>> {
     engine: &'e Engine<J, M, L>,
     ticket: Ticket<J>,
@@ -747,8 +747,8 @@ impl<'e, J: Naming, M: CrackerMap, L: Latch<LatchedHead<J, M>>> Session<'e, J, M
     }
 
     /// The receipt of the list that was published when the session was opened, or at its last insert, delete, delete
-    /// under conditions or meeting that was answered. Each begins with the one before. It takes no memory, and waits for
-    /// nobody.
+    /// under conditions, publish or meeting that was answered. Each begins with the one before. It takes no memory, and
+    /// waits for nobody.
     ///
     /// Of each entry of the history, what the session's share shows as published has all updates or none.
     pub fn receipt(&self) -> Receipt<J>

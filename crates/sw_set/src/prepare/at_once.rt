@@ -12,7 +12,7 @@ ghost use Rattle.sw_set.specs.Sought.{IsBetween};
 use crate::prepare::align::align_box;
 use crate::prepare::course::Course;
 use crate::prepare::in_turn::step_in_turn;
-use crate::prepare::lacking::{find_lacking, lacks, lacks_much};
+use crate::prepare::lacking::{all_came, lacks, lacks_much};
 use std::thread;
 use std::thread::Threads;
 use sw_map::{CrackerMap, Tail};
@@ -108,8 +108,5 @@ pub fn align_at_once<R: Threads + Sync, M: CrackerMap>(
         tape,
     };
     step_lacking(rt, boxes, 0, 0, &course);
-    match find_lacking(boxes, 0, tails, tape.len()) {
-        None => Ok(()),
-        Some(_) => Err(Refusal::NoMemory),
-    }
+    all_came(boxes, &course)
 }

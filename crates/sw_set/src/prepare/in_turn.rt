@@ -11,7 +11,7 @@ ghost use Rattle.sw_set.specs.Sought.{IsAt, IsNeeded};
 
 use crate::prepare::align::align_box;
 use crate::prepare::course::Course;
-use crate::prepare::lacking::find_lacking;
+use crate::prepare::lacking::{all_came, find_lacking};
 use crate::prepare::twins::step_twins;
 use sw_map::{CrackerMap, Tail};
 use sw_query::Refusal;
@@ -72,8 +72,5 @@ pub fn align_in_turn<M: CrackerMap>(
         tape,
     };
     step_in_turn(boxes, &course);
-    match find_lacking(boxes, 0, tails, tape.len()) {
-        None => Ok(()),
-        Some(_) => Err(Refusal::NoMemory),
-    }
+    all_came(boxes, &course)
 }

@@ -1,12 +1,15 @@
 //! Which boxes lack entries of the tape, and how much work a map lacks. Of how much no contract speaks: it decides alone
 //! whether a thread is started.
 
-ghost use Rattle.std.specs.Prelude.{◌≡◌, false, true};
+ghost use Rattle.std.specs.Prelude.{◌≡◌, false, map, true, All};
+ghost use Rattle.sw_query.specs.Outcomes.{MemoryAside};
+ghost use Rattle.sw_set.specs.Aligned.{IsAtEnd};
 ghost use Rattle.sw_set.specs.Sought.{FindsLacking, IsAtCursor, LacksEntries};
 
 use crate::prepare::align::is_needed;
+use crate::prepare::course::Course;
 use sw_map::{CrackerMap, Tail};
-use sw_query::Bound;
+use sw_query::{Bound, Refusal};
 use sw_tape::{Entry, Tape};
 
 /// A thread is worth its start where more pairs than this are to be parted: that takes some 0.5 ms. A processor that idles
@@ -39,6 +42,17 @@ pub(crate) fn find_lacking<M: CrackerMap>(
         }
     }
     None
+}
+
+/// Tells after steps whether all needed maps came to the tape's end: refused `NoMemory` where one lacks entries, since a
+/// step of it was refused.
+pub(crate) fn all_came<M: CrackerMap>(boxes: &[M], course: &Course<'_>) -> Result<(), Refusal>
+    ensures { MemoryAside result (λ _. All (IsAtEnd course.now.tails.now course.now.tape.now) (map M.held boxes.now)) }
+{
+    match find_lacking(boxes, 0, course.tails, course.tape.len()) {
+        None => Ok(()),
+        Some(_) => Err(Refusal::NoMemory),
+    }
 }
 
 /// The nearest bound of the tape below a bound.

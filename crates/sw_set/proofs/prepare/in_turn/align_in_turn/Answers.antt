@@ -1,19 +1,10 @@
 use Rattle.sw_map.specs.Lawful.{IsLawful}
 use Rattle.sw_set.proofs.Areas.Boxes.{held-all}
-use Rattle.sw_set.proofs.Areas.Swaps.{none-lack, same-boxes}
+use Rattle.sw_set.proofs.Areas.Swaps.{same-boxes}
 use Rattle.sw_set.proofs.prepare.in_turn.align_in_turn.Goals as goal
 
-pub returns-in-None-clause-lawful : goal.returns-in-None-clause-lawful
-returns-in-None-clause-lawful g c = held-all g.M.CrackerMap.held (IsLawful c.args.attribute c.args.tape.now) _ c.step_in_turn.ensures.lawful
+pub returns-in_done-clause-lawful : goal.returns-in_done-clause-lawful
+returns-in_done-clause-lawful g c = held-all g.M.CrackerMap.held (IsLawful c.args.attribute c.args.tape.now) _ c.step_in_turn.ensures.lawful
 
-pub returns-in-None-clause-same : goal.returns-in-None-clause-same
-returns-in-None-clause-same g c = same-boxes g.M.CrackerMap.held _ _ c.step_in_turn.ensures.many c.step_in_turn.ensures.same
-
-pub returns-in-None-clause-ends : goal.returns-in-None-clause-ends
-returns-in-None-clause-ends g c = none-lack g.M.CrackerMap.held _ _ _ _ c.len.ensures.count c.in-None.ensures
-
-pub returns-in-Some-clause-lawful : goal.returns-in-Some-clause-lawful
-returns-in-Some-clause-lawful g c = held-all g.M.CrackerMap.held (IsLawful c.args.attribute c.args.tape.now) _ c.step_in_turn.ensures.lawful
-
-pub returns-in-Some-clause-same : goal.returns-in-Some-clause-same
-returns-in-Some-clause-same g c = same-boxes g.M.CrackerMap.held _ _ c.step_in_turn.ensures.many c.step_in_turn.ensures.same
+pub returns-in_done-clause-same : goal.returns-in_done-clause-same
+returns-in_done-clause-same g c = same-boxes g.M.CrackerMap.held _ _ c.step_in_turn.ensures.many c.step_in_turn.ensures.same
