@@ -16,7 +16,7 @@ use csv::{ByteRecord, Writer};
 use itoa::{Buffer, Integer};
 use std::alloc::{AllocError, Global};
 use sw_lang::{kind_name, write_all};
-use sw_rows::{Call, Kind, Refusal, Reply, ReplyRows, Schema, Sink};
+use sw_rows::{Call, Refusal, Reply, ReplyRows, Schema, Sink};
 
 /// Records that are written to memory, and the one that is being made.
 struct Records {

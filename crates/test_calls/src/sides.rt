@@ -1,7 +1,6 @@
 //! An area, or a head: what lines are called of.
 
 use crate::areas::{Alone, removal, see_keys};
-use crate::telling::row;
 use std::io;
 use std::thread::Threads;
 use sw_map::{CrackerMap, Tail};

@@ -4,7 +4,6 @@ ghost use Rattle.std.specs.Prelude.{◌≡◌, IfOk};
 ghost use Rattle.sw_kernel.specs.Tapes.{count_from};
 
 use crate::areas::removal;
-use crate::maps::grow;
 use crate::telling::{CELLS, TURNS, row, told};
 use std::alloc::Global;
 use std::io;

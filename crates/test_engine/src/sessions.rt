@@ -18,7 +18,7 @@ use std::sync::Wait;
 use std::sync::atomic::Ordering;
 use std::thread::Threads;
 use sw_map::CrackerMap;
-use sw_rows::{Call, Conds, Query, Refusal, Schema, TextKey, Want};
+use sw_rows::{Conds, Query, Refusal, Schema, TextKey, Want};
 
 /// How often a script is begun where something else than a call is refused, and how often a call is made that is refused.
 const TURNS: usize = 3;

@@ -13,7 +13,6 @@ use sw_engine::{Engine, Naming, Session, Ticket, Viewer};
 use sw_lang::{parse_known, write_reply};
 use sw_map::CrackerMap;
 use sw_rows::{Call, Counted, Reply, Schema};
-use sw_spine::State;
 
 /// A session of an engine, up to two viewers of it, and the schema by which lines are read.
 #[derive(Drop)]
