@@ -8,6 +8,7 @@ use std::sync::Wait;
 use std::sync::atomic::Ordering;
 use std::thread::Threads;
 use sw_cli::{Means, Nobody, Options, run_shared, run_with};
+use sw_engine::HeadStats;
 use sw_rows::{Counted, Refusal, TextKey};
 use sw_spine::Record;
 
@@ -78,8 +79,17 @@ pub(crate) fn met_in_run<R: Threads + Wait + Sync>(
     Ok(())
 }
 
+/// Tells how many queries the heads answered.
+fn tell_queries(text: &mut String, heads: &[HeadStats]) -> Result<(), AllocError> {
+    let mut queries = 0u64;
+    for head in heads {
+        queries = queries.saturating_add(head.queries);
+    }
+    write!(text, ", {queries} queries")
+}
+
 /// Two blocks that make one select again and again in a head that they share. Tells whether two selects were ever in its map at a
-/// time, and the check of the record's file.
+/// time, how many the heads counted, those that were answered together too, and the check of the record's file.
 pub(crate) fn shared<R: Threads + Wait + Sync>(
     telling: &mut Telling<'_, R>,
 ) -> Result<(), Refusal> {
@@ -107,6 +117,7 @@ pub(crate) fn shared<R: Threads + Wait + Sync>(
     let after = run_shared(telling.rt, means, &mut table, &mut script, &mut out)?;
     let met = sights.counts.met.load(Ordering::SeqCst);
     held(telling.text.push_str(if met { "met" } else { "never met" }))?;
+    held(tell_queries(telling.text, after.stats.as_slice()))?;
     tell_file(alloc, telling.text, &after.history)
 }
 
