@@ -1,6 +1,5 @@
 //! A map that grows in place and notes how it began and grew.
 
-
 use std::sync::Arc;
 use std::sync::atomic::{AtomicU64, Ordering};
 use sw_map::{CrackerMap, Tail};
