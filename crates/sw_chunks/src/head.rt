@@ -21,7 +21,7 @@ ghost use Rattle.sw_chunks.specs.Routing.{MayFollow};
 ghost use Rattle.sw_chunks.specs.declared.places.TheConstants.{MOST_CUTS};
 ghost use Rattle.sw_set.specs.Figures.{capped};
 
-use crate::answering::answer_areas;
+use crate::answering::{Asking, answer_areas};
 use crate::clearing::clear_but;
 use crate::dealing::{areas_of, owners_kept};
 use crate::figures::{Figures, figures_of};
@@ -285,8 +285,13 @@ impl<M: CrackerMap> Head<M> {
         ensures few { IfOk result (λ r. r.1 ≤ length (touched_of query.now self.old.areas)) }
         ensures refused { IsOkUnless result NoMemory }
     {
-        let now = self.tick();
-        answer_areas(align, self.alloc, self.areas.as_mut_slice(), now, query)
+        let asking = Asking {
+            align,
+            alloc: self.alloc,
+            number: self.tick(),
+            query,
+        };
+        answer_areas(&asking, self.areas.as_mut_slice())
     }
 
     /// The next query's number.
