@@ -24,6 +24,7 @@ ghost use Rattle.sw_set.specs.Figures.{capped};
 use crate::answering::{Asking, answer_areas};
 use crate::clearing::clear_but;
 use crate::dealing::{areas_of, owners_kept};
+use crate::division::Division;
 use crate::figures::{Figures, figures_of};
 use crate::places::add_owners;
 use crate::resting::{UNKNOWN, answer_resting, maps_used};
@@ -124,8 +125,9 @@ impl<M: CrackerMap> Head<M> {
         ensures { MatchResult result (λ h. h ≡ opened attribute cuts.now rows.items) (λ e. e ≡ NoMemory) }
     {
         let told = tell_rows(&rows);
-        let owners = owners_kept(alloc, attribute, cuts, &rows)?;
-        let areas = areas_of(alloc, attribute, cuts, rows)?;
+        let by = Division { attribute, cuts };
+        let owners = owners_kept(alloc, &by, &rows)?;
+        let areas = areas_of(alloc, &by, rows)?;
         let Ok(cuts) = Vec::from_slice(alloc, cuts) else {
             return Err(Refusal::NoMemory);
         };
@@ -190,16 +192,14 @@ impl<M: CrackerMap> Head<M> {
         ensures refused { IsOkUnless result NoMemory }
     {
         let before = self.owners.len();
-        add_owners(
-            &mut self.owners,
-            self.attribute,
-            self.cuts.as_slice(),
-            updates,
-        )?;
+        let by = Division {
+            attribute: self.attribute,
+            cuts: self.cuts.as_slice(),
+        };
+        add_owners(&mut self.owners, &by, updates)?;
         let done = route_all(
             self.alloc,
-            self.attribute,
-            self.cuts.as_slice(),
+            &by,
             self.owners.as_slice(),
             self.areas.as_mut_slice(),
             updates,
