@@ -12,10 +12,18 @@ use Rattle.sw_set.proofs.Replying.Told.{if-ok}
 use Rattle.sw_set.specs.Merged.{StandsForSame}
 use Rattle.sw_set.specs.Prepared.{IsNotedFor, IsPreparedFor, IsSameButBoxes, area_lower, area_upper, is_touched}
 use Rattle.sw_set.specs.Shelf.{AreaState, IsSameArea, came_in, logged_rows}
-use Rattle.sw_chunks.specs.Cleared.{AreClearedBut}
+use Rattle.sw_chunks.specs.Cleared.{AreClearedBut, AreEach}
 use Rattle.sw_chunks.specs.Heads.{AreUntouchedKept, AreUntouchedSame, IsRanged}
-use Rattle.sw_chunks.specs.Asked.{AreAskedBefore, AreaFits, AreasFit, IsOneAsked, with_all, with_area}
+use Rattle.sw_chunks.specs.Asked.{AreaFits, AreasFit, IsOneAsked, with_all, with_area}
 use Rattle.sw_chunks.proofs.Asking.{get-any, next-fits, rest-all, rest-fits, set-many, set-other, set-same}
+
+-- The areas before a place were asked, so that their bounds stand in ranges where none scanned; of the others maps may
+-- have been cleared.
+pub record AreAskedBefore (q : Query) (k : ℕ) (xs ys : List AreaState) (scans : ℕ) : Type 0 where
+  pub same : AreEach StandsForSame xs ys
+  pub kept : AreUntouchedKept q xs ys
+  pub left : (j : ℕ) (d e : AreaState) → k ≤ j → j < length xs → IsSameButBoxes (get_or xs j d) (get_or ys j e)
+  pub ranged : scans ≡ 0 → (j : ℕ) (e : AreaState) → j < k → j < length xs → IsRanged q (get_or ys j e)
 
 -- an area is the same as itself but for its boxes
 pub boxes-alike : (x : AreaState) → IsSameButBoxes x x

@@ -1,5 +1,5 @@
 -- The areas of a head, asked one after the other.
-use Rattle.std.specs.Prelude.{◌≡◌, ◌≢◌, ◌<◌, ◌≤◌, ◌*◌, ℕ, ℤ, Bool, List, Result, Err, min, [], ◌∷◌, if◌then◌else◌, true, false, filter, get_or, length, map, All}
+use Rattle.std.specs.Prelude.{◌≡◌, ◌≢◌, ◌<◌, ◌*◌, ℕ, ℤ, Bool, List, Result, Err, min, [], ◌∷◌, if◌then◌else◌, true, false, filter, get_or, length, map, All}
 use Rattle.sw_query.specs.declared.query.Query.{Query}
 use Rattle.sw_query.specs.declared.reply.Reply.{Reply}
 use Rattle.sw_table.specs.declared.row.Row.{Row}
@@ -16,16 +16,12 @@ use Rattle.sw_set.specs.Resting.{IsAtRest}
 use Rattle.sw_set.specs.Shelf.{AreaState, rows_in}
 use Rattle.sw_chunks.specs.Cleared.{AreEach}
 use Rattle.sw_chunks.specs.Cuts.{Interval}
-use Rattle.sw_chunks.specs.Heads.{AreAreasOf, AreUntouchedKept, IsRanged, StandsFor, meets_interval, part_of}
+use Rattle.sw_chunks.specs.Heads.{AreAreasOf, IsRanged, StandsFor, meets_interval, part_of}
 use Rattle.sw_chunks.specs.Joined.{JoinFits, joined}
 
 -- the replies over the parts that a query touches, from the lowest
 abbrev pub part_replies : ℕ → List Row → Query → List Interval → List Reply
 part_replies a rows q is = map (λ i. answer (part_of a rows i) q) (filter (meets_interval q) is)
-
--- the replies of the areas that a query touches, from the lowest
-abbrev pub area_replies : Query → List AreaState → List Reply
-area_replies q xs = map (λ x. answer (rows_in x) q) (filter (λ x. is_touched x q) xs)
 
 -- a reply, with that of one area more if the query touches it
 abbrev pub with_area : Query → Reply → AreaState → Reply
@@ -70,14 +66,6 @@ pub record IsOneAsked (k : ℕ) (xs ys : List AreaState) : Type 0 where
   pub many : length ys ≡ length xs
   pub here : (d e : AreaState) → StandsForSame (get_or xs k d) (get_or ys k e)
   pub others : (j : ℕ) (d e : AreaState) → j < length xs → j ≢ k → IsSameButBoxes (get_or xs j d) (get_or ys j e)
-
--- The areas before a place were asked, so that their bounds stand in ranges where none scanned; of the others maps may
--- have been cleared.
-pub record AreAskedBefore (q : Query) (k : ℕ) (xs ys : List AreaState) (scans : ℕ) : Type 0 where
-  pub same : AreEach StandsForSame xs ys
-  pub kept : AreUntouchedKept q xs ys
-  pub left : (j : ℕ) (d e : AreaState) → k ≤ j → j < length xs → IsSameButBoxes (get_or xs j d) (get_or ys j e)
-  pub ranged : scans ≡ 0 → (j : ℕ) (e : AreaState) → j < k → j < length xs → IsRanged q (get_or ys j e)
 
 -- the areas of a head, asked one after the other, give the answer over all rows that its updates leave
 abbrev pub AreasAnswer : Type 0

@@ -1,5 +1,5 @@
 -- Into which area an update goes.
-use Rattle.std.specs.Prelude.{◌≡◌, ◌≢◌, ◌<◌, ◌≤◌, ◌==◌, ◌+◌, ◌++◌, if◌then◌else◌, ℕ, ℤ, List, [], ◌∷◌, fold, get_or, length, map, slice_index_or}
+use Rattle.std.specs.Prelude.{◌≡◌, ◌≢◌, ◌<◌, ◌≤◌, ◌==◌, ◌+◌, ◌++◌, if◌then◌else◌, ℕ, ℤ, List, [], ◌∷◌, fold, get_or, length, map, slice_index_or, All}
 use Rattle.sw_table.specs.declared.row.Row.{Row}
 use Rattle.sw_table.specs.declared.row.Update.{Update}
 use Rattle.sw_table.specs.declared.row.Update.TheVariants as update
@@ -28,6 +28,10 @@ place_by a cuts owners (update.Remove key) = find_place key owners
 -- the places of updates
 abbrev pub places_of : ℕ → List ℤ → List (ℕ × ℕ) → List Update → List ℕ
 places_of a cuts owners us = map (place_by a cuts owners) us
+
+-- each of these places is that of an area
+abbrev pub AreAmong : List AreaState → List ℕ → Type 0
+AreAmong xs ps = All (λ (p : ℕ). p < length xs) ps
 
 -- the key stands at a place
 abbrev pub StandsAt : List (ℕ × ℕ) → ℕ → ℕ → Type 0
@@ -97,3 +101,7 @@ owners_with a cuts os us = fold (owners_then a cuts) os us
 abbrev pub owners_added : ℕ → List ℤ → List (ℕ × ℕ) → List Update → List (ℕ × ℕ)
 owners_added a [] os us = os
 owners_added a (c ∷ cs) os us = owners_with a (c ∷ cs) os us
+
+-- what a head kept and what it keeps, after updates
+abbrev pub HaveAdded : ℕ → List ℤ → List Update → List (ℕ × ℕ) → List (ℕ × ℕ) → Type 0
+HaveAdded a cuts us was now = now ≡ owners_added a cuts was us

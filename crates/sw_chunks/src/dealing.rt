@@ -7,8 +7,8 @@ ghost use Rattle.sw_set.specs.Shelf.{Rises, key_of};
 ghost use Rattle.sw_chunks.specs.Cuts.{Interval, RiseAbove, intervals};
 ghost use Rattle.sw_chunks.specs.Heads.{ArePartsOf, opened_areas};
 ghost use Rattle.sw_chunks.specs.Places.{owners_kept, owners_of};
-ghost use Rattle.sw_chunks.specs.declared.places.TheConstants.{MOST_CUTS};
 
+use crate::division::Division;
 use crate::places::place_in;
 use std::alloc::Global;
 use std::mem;
@@ -45,44 +45,30 @@ fn push_row(part: &mut PackedRows, row: &Row) -> Result<(), Refusal>
 }
 
 /// The rows by the intervals in which their cells lie, copied in one pass. Refused `NoMemory` alone.
-fn deal(
-    alloc: Global,
-    attribute: u8,
-    cuts: &[i64],
-    rows: &PackedRows,
-) -> Result<Vec<PackedRows>, Refusal>
-    requires attribute { attribute < 8 }
-    requires rising { RiseAbove None cuts.now }
-    requires few { length cuts.now ≤ MOST_CUTS }
-    ensures many { IfOk result (λ parts. length parts.items ≡ length cuts.now + 1) }
-    ensures parts { IfOk result (λ parts. ArePartsOf attribute cuts.now rows.now.items parts.items) }
+fn deal(alloc: Global, by: &Division<'_>, rows: &PackedRows) -> Result<Vec<PackedRows>, Refusal>
+    requires rising { RiseAbove None by.now.cuts.now }
+    ensures many { IfOk result (λ parts. length parts.items ≡ length by.now.cuts.now + 1) }
+    ensures parts { IfOk result (λ parts. ArePartsOf by.now.attribute by.now.cuts.now rows.now.items parts.items) }
     ensures refused { IsOkUnless result NoMemory }
 {
-    let mut parts = empty_parts(alloc, rows.width(), cuts.len() + 1)?;
+    let mut parts = empty_parts(alloc, rows.width(), by.cuts.len() + 1)?;
     for at in 0..rows.len() {
         let row = rows.get(at);
-        let place = place_in(cuts, row.cells[usize::from(attribute)]);
+        let place = place_in(by.cuts, row.cells[usize::from(by.attribute)]);
         push_row(&mut parts[usize::from(place)], &row)?;
     }
     Ok(parts)
 }
 
 /// The same of rows that are taken over: without cuts they are the one part, and are not copied.
-fn parts_of(
-    alloc: Global,
-    attribute: u8,
-    cuts: &[i64],
-    rows: PackedRows,
-) -> Result<Vec<PackedRows>, Refusal>
-    requires attribute { attribute < 8 }
-    requires rising { RiseAbove None cuts.now }
-    requires few { length cuts.now ≤ MOST_CUTS }
-    ensures many { IfOk result (λ parts. length parts.items ≡ length cuts.now + 1) }
-    ensures parts { IfOk result (λ parts. ArePartsOf attribute cuts.now rows.items parts.items) }
+fn parts_of(alloc: Global, by: &Division<'_>, rows: PackedRows) -> Result<Vec<PackedRows>, Refusal>
+    requires rising { RiseAbove None by.now.cuts.now }
+    ensures many { IfOk result (λ parts. length parts.items ≡ length by.now.cuts.now + 1) }
+    ensures parts { IfOk result (λ parts. ArePartsOf by.now.attribute by.now.cuts.now rows.items parts.items) }
     ensures refused { IsOkUnless result NoMemory }
 {
-    if !cuts.is_empty() {
-        return deal(alloc, attribute, cuts, &rows);
+    if !by.cuts.is_empty() {
+        return deal(alloc, by, &rows);
     }
     let mut parts = Vec::new(alloc);
     match parts.push(rows) {
@@ -111,27 +97,24 @@ fn interval_end(cuts: &[i64], place: usize) -> Option<i64>
 /// alone.
 pub(crate) fn areas_of<M: CrackerMap>(
     alloc: Global,
-    attribute: u8,
-    cuts: &[i64],
+    by: &Division<'_>,
     rows: PackedRows,
 ) -> Result<Vec<Area<M>>, Refusal>
-    requires attribute { attribute < 8 }
-    requires rising { RiseAbove None cuts.now }
-    requires few { length cuts.now ≤ MOST_CUTS }
+    requires rising { RiseAbove None by.now.cuts.now }
     requires keys { All (λ (r : Row). r.key < 2 ^ 63) rows.items }
     requires rise { Rises key_of rows.items }
-    ensures areas { IfOk result (λ areas. areas.items ≡ opened_areas attribute cuts.now rows.items) }
+    ensures areas { IfOk result (λ areas. areas.items ≡ opened_areas by.now.attribute by.now.cuts.now rows.items) }
     ensures refused { IsOkUnless result NoMemory }
 {
-    let mut parts = parts_of(alloc, attribute, cuts, rows)?;
+    let mut parts = parts_of(alloc, by, rows)?;
     let mut areas = Vec::new(alloc);
     for k in 0..parts.len() {
         let part = mem::replace(&mut parts[k], PackedRows::new(alloc, 1));
         let area = Area::of(
             alloc,
-            attribute,
-            interval_start(cuts, k),
-            interval_end(cuts, k),
+            by.attribute,
+            interval_start(by.cuts, k),
+            interval_end(by.cuts, k),
             part,
         )?;
         if areas.push(area).is_err() {
@@ -142,22 +125,15 @@ pub(crate) fn areas_of<M: CrackerMap>(
 }
 
 /// The keys of rows, and beside each the area to which its row goes. Refused `NoMemory` alone.
-fn owners_of(
-    alloc: Global,
-    attribute: u8,
-    cuts: &[i64],
-    rows: &PackedRows,
-) -> Result<Vec<(u64, u8)>, Refusal>
-    requires attribute { attribute < 8 }
-    requires few { length cuts.now ≤ MOST_CUTS }
-    ensures owners { IfOk result (λ owners. owners.items ≡ owners_of attribute cuts.now rows.now.items) }
+fn owners_of(alloc: Global, by: &Division<'_>, rows: &PackedRows) -> Result<Vec<(u64, u8)>, Refusal>
+    ensures owners { IfOk result (λ owners. owners.items ≡ owners_of by.now.attribute by.now.cuts.now rows.now.items) }
     ensures refused { IsOkUnless result NoMemory }
 {
     let Ok(mut owners) = Vec::with_capacity(alloc, rows.len()) else {
         return Err(Refusal::NoMemory);
     };
     for at in 0..rows.len() {
-        let place = place_in(cuts, rows.cell(at, usize::from(attribute)));
+        let place = place_in(by.cuts, rows.cell(at, usize::from(by.attribute)));
         if owners.push((rows.key(at), place)).is_err() {
             return Err(Refusal::NoMemory);
         }
@@ -169,17 +145,14 @@ fn owners_of(
 #[tactic(auto, using(crate::proofs::Kept::kept_none, crate::proofs::Kept::kept_some))]
 pub(crate) fn owners_kept(
     alloc: Global,
-    attribute: u8,
-    cuts: &[i64],
+    by: &Division<'_>,
     rows: &PackedRows,
 ) -> Result<Vec<(u64, u8)>, Refusal>
-    requires attribute { attribute < 8 }
-    requires few { length cuts.now ≤ MOST_CUTS }
-    ensures owners { IfOk result (λ owners. owners.items ≡ owners_kept attribute cuts.now rows.now.items) }
+    ensures owners { IfOk result (λ owners. owners.items ≡ owners_kept by.now.attribute by.now.cuts.now rows.now.items) }
     ensures refused { IsOkUnless result NoMemory }
 {
-    if cuts.is_empty() {
+    if by.cuts.is_empty() {
         return Ok(Vec::new(alloc));
     }
-    owners_of(alloc, attribute, cuts, rows)
+    owners_of(alloc, by, rows)
 }

@@ -21,9 +21,10 @@ ghost use Rattle.sw_chunks.specs.Routing.{MayFollow};
 ghost use Rattle.sw_chunks.specs.declared.places.TheConstants.{MOST_CUTS};
 ghost use Rattle.sw_set.specs.Figures.{capped};
 
-use crate::answering::answer_areas;
+use crate::answering::{Asking, answer_areas};
 use crate::clearing::clear_but;
 use crate::dealing::{areas_of, owners_kept};
+use crate::division::Division;
 use crate::figures::{Figures, figures_of};
 use crate::places::add_owners;
 use crate::resting::{UNKNOWN, answer_resting, maps_used};
@@ -54,9 +55,11 @@ pub struct Head<M: CrackerMap> {
     /// is empty.
     owners: Vec<(u64, u8)>,
     told: Book<Update>,
-    /// The number of the last query that stamped maps. Those who share the head count too.
+    /// The number of the last query that counted, to stamp maps with it. Those who share the head count too.
     clock: AtomicU64,
-    /// Which maps bear that number, where they are known: no query that uses just these need stamp them again.
+    /// The maps that the query of that number used, where it was answered at rest and they bear it: one that uses just
+    /// these need not stamp them again. In one thread that is so, but for stamps that no memory was found for; where
+    /// several share the head, a slower one may stamp with its older number, or store what it used, after the next counted.
     used: AtomicU64,
 }
 
@@ -122,8 +125,9 @@ impl<M: CrackerMap> Head<M> {
         ensures { MatchResult result (λ h. h ≡ opened attribute cuts.now rows.items) (λ e. e ≡ NoMemory) }
     {
         let told = tell_rows(&rows);
-        let owners = owners_kept(alloc, attribute, cuts, &rows)?;
-        let areas = areas_of(alloc, attribute, cuts, rows)?;
+        let by = Division { attribute, cuts };
+        let owners = owners_kept(alloc, &by, &rows)?;
+        let areas = areas_of(alloc, &by, rows)?;
         let Ok(cuts) = Vec::from_slice(alloc, cuts) else {
             return Err(Refusal::NoMemory);
         };
@@ -188,16 +192,14 @@ impl<M: CrackerMap> Head<M> {
         ensures refused { IsOkUnless result NoMemory }
     {
         let before = self.owners.len();
-        add_owners(
-            &mut self.owners,
-            self.attribute,
-            self.cuts.as_slice(),
-            updates,
-        )?;
+        let by = Division {
+            attribute: self.attribute,
+            cuts: self.cuts.as_slice(),
+        };
+        add_owners(&mut self.owners, &by, updates)?;
         let done = route_all(
             self.alloc,
-            self.attribute,
-            self.cuts.as_slice(),
+            &by,
             self.owners.as_slice(),
             self.areas.as_mut_slice(),
             updates,
@@ -285,25 +287,36 @@ impl<M: CrackerMap> Head<M> {
         ensures few { IfOk result (λ r. r.1 ≤ length (touched_of query.now self.old.areas)) }
         ensures refused { IsOkUnless result NoMemory }
     {
-        let now = self.tick();
-        answer_areas(align, self.alloc, self.areas.as_mut_slice(), now, query)
+        let asking = Asking {
+            align,
+            alloc: self.alloc,
+            number: self.tick(),
+            query,
+        };
+        answer_areas(&asking, self.areas.as_mut_slice())
     }
 
-    /// The next query's number.
+    /// The next query's number. Which maps bear it is not known before the query is answered at rest.
     fn tick(&self) -> u64 {
+        let now = self.clock.fetch_add(1, Ordering::SeqCst).wrapping_add(1);
         self.used.store(UNKNOWN, Ordering::SeqCst);
-        self.clock.fetch_add(1, Ordering::SeqCst).wrapping_add(1)
+        now
     }
 
-    /// The next query's number, where it uses others than just those maps that bear the last one.
-    fn tick_for(&self, query: &Query) -> Option<u64> {
-        let used = maps_used(self.areas.as_slice(), query);
+    /// The next query's number, where it uses others than just those maps that are known to bear the last one.
+    fn tick_for(&self, used: u64) -> Option<u64> {
         if self.used.load(Ordering::SeqCst) == used {
             return None;
         }
-        let now = self.tick();
-        self.used.store(used, Ordering::SeqCst);
-        Some(now)
+        Some(self.tick())
+    }
+
+    /// Keeps which maps the query of a number used, after it stamped them, unless another has counted since. Where several
+    /// share the head, one may count between the look at the clock and the store: then a later use of these is not stamped.
+    fn keep_used(&self, used: u64, now: u64) {
+        if self.clock.load(Ordering::SeqCst) == now {
+            self.used.store(used, Ordering::SeqCst);
+        }
     }
 
     /// The answer of a query where each area that it touches is ready for it as it stands, so that many may be answered
@@ -316,8 +329,16 @@ impl<M: CrackerMap> Head<M> {
         ensures answered { IfOk result (λ it. IfSome it (λ reply. reply ≡ answer (rows_of self.now.updates) query.now)) }
         ensures refused { IsOkUnless result NoMemory }
     {
-        let now = self.tick_for(query);
-        answer_resting(self.alloc, self.areas.as_slice(), now, query)
+        let used = maps_used(self.areas.as_slice(), query);
+        let now = self.tick_for(used);
+        let told = answer_resting(self.alloc, self.areas.as_slice(), now, query)?;
+        let Some(reply) = told else {
+            return Ok(None);
+        };
+        if let Some(now) = now {
+            self.keep_used(used, now);
+        }
+        Ok(Some(reply))
     }
 
     /// The plain answer over all rows: the areas that the query touches are merged and scanned. No map is made for it,

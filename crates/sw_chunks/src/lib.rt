@@ -4,6 +4,7 @@
 mod answering;
 mod clearing;
 mod dealing;
+mod division;
 mod figures;
 mod head;
 mod joining;

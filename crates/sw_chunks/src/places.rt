@@ -1,12 +1,13 @@
 //! Into which area a row goes, and into which one it went.
 
-ghost use Rattle.std.specs.Prelude.{◌≡◌, ◌<◌, ◌≤◌, ℕ, true, false, length, IfOk, IsOkUnless, OnErr, OnOk};
+ghost use Rattle.std.specs.Prelude.{◌≡◌, ◌≤◌, ◌+◌, ℕ, true, false, length, vec_capacity, vec_len, IfOk, IsOkUnless, OnErr, OnOk};
 ghost use Rattle.sw_query.specs.declared.refusal.Refusal.TheVariants.{NoMemory};
 ghost use Rattle.sw_set.specs.Shelf.{Rises};
 ghost use Rattle.sw_chunks.specs.Cuts.{place_in};
-ghost use Rattle.sw_chunks.specs.Places.{IsNotAt, StandsAt, count_at, find_place, owners_added, owners_with, place_by, places_of};
+ghost use Rattle.sw_chunks.specs.Places.{HaveAdded, IsNotAt, StandsAt, count_at, find_place, owners_with, place_by, places_of};
 ghost use Rattle.sw_chunks.specs.declared.places.TheConstants.{MOST_CUTS};
 
+use crate::division::Division;
 use std::alloc::Global;
 use sw_query::{Refusal, Update};
 
@@ -50,14 +51,12 @@ fn find_place(owners: &[(u64, u8)], key: u64) -> u8
 }
 
 /// The area to which an update goes: that in whose interval its row's cell lies, or that of the row that goes.
-fn place_by(attribute: u8, cuts: &[i64], owners: &[(u64, u8)], update: &Update) -> u8
-    requires attribute { attribute < 8 }
-    requires few { length cuts.now ≤ MOST_CUTS }
+fn place_by(by: &Division<'_>, owners: &[(u64, u8)], update: &Update) -> u8
     requires rise { Rises (λ (o : ℕ × ℕ). o.0) owners.now }
-    ensures { result ≡ place_by attribute cuts.now owners.now update.now }
+    ensures { result ≡ place_by by.now.attribute by.now.cuts.now owners.now update.now }
 {
     match update {
-        Update::Insert(row) => place_in(cuts, row.cells[usize::from(attribute)]),
+        Update::Insert(row) => place_in(by.cuts, row.cells[usize::from(by.attribute)]),
         Update::Remove(key) => find_place(owners, *key),
     }
 }
@@ -65,20 +64,17 @@ fn place_by(attribute: u8, cuts: &[i64], owners: &[(u64, u8)], update: &Update) 
 /// The areas to which updates go. Refused `NoMemory` alone.
 pub(crate) fn places_by(
     alloc: Global,
-    attribute: u8,
-    cuts: &[i64],
+    by: &Division<'_>,
     owners: &[(u64, u8)],
     updates: &[Update],
 ) -> Result<Vec<u8>, Refusal>
-    requires attribute { attribute < 8 }
-    requires few { length cuts.now ≤ MOST_CUTS }
     requires rise { Rises (λ (o : ℕ × ℕ). o.0) owners.now }
-    ensures places { IfOk result (λ places. places.items ≡ places_of attribute cuts.now owners.now updates.now) }
+    ensures places { IfOk result (λ it. it.items ≡ places_of by.now.attribute by.now.cuts.now owners.now updates.now) }
     ensures refused { IsOkUnless result NoMemory }
 {
     let mut places = Vec::new(alloc);
     for update in updates {
-        let place = place_by(attribute, cuts, owners, update);
+        let place = place_by(by, owners, update);
         if places.push(place).is_err() {
             return Err(Refusal::NoMemory);
         }
@@ -99,47 +95,37 @@ pub(crate) fn count_at(places: &[u8], place: usize) -> usize
     many
 }
 
-/// Adds the rows that come, and the areas to which they go. Refused `NoMemory`, nothing has changed.
-fn add_each(
-    owners: &mut Vec<(u64, u8)>,
-    attribute: u8,
-    cuts: &[i64],
-    updates: &[Update],
-) -> Result<(), Refusal>
-    requires attribute { attribute < 8 }
-    requires few { length cuts.now ≤ MOST_CUTS }
-    ensures added { OnOk result (owners.new.items ≡ owners_with attribute cuts.now owners.old.items updates.now) }
-    ensures left { OnErr result (owners.new.items ≡ owners.old.items) }
-    ensures refused { IsOkUnless result NoMemory }
+/// Adds the rows that come, and the areas to which they go. There is room for as many as there are updates.
+fn add_each(owners: &mut Vec<(u64, u8)>, by: &Division<'_>, updates: &[Update])
+    requires { vec_len owners.old + length updates.now ≤ vec_capacity owners.old }
+    ensures { owners.new.items ≡ owners_with by.now.attribute by.now.cuts.now owners.old.items updates.now }
 {
-    if owners.reserve(updates.len()).is_err() {
-        return Err(Refusal::NoMemory);
-    }
     for update in updates {
         if let Update::Insert(row) = update {
-            let place = place_in(cuts, row.cells[usize::from(attribute)]);
+            let place = place_in(by.cuts, row.cells[usize::from(by.attribute)]);
             owners.push_reserved((row.key, place));
         }
     }
-    Ok(())
 }
 
-/// The same where there are cuts; without them nothing is kept. Refused `NoMemory`, nothing has changed.
+/// The same, after room is made for them, where there are cuts; without them nothing is kept. Refused `NoMemory`, nothing
+/// has changed.
 #[tactic(auto, using(crate::proofs::Kept::added_none, crate::proofs::Kept::added_some))]
 pub(crate) fn add_owners(
     owners: &mut Vec<(u64, u8)>,
-    attribute: u8,
-    cuts: &[i64],
+    by: &Division<'_>,
     updates: &[Update],
 ) -> Result<(), Refusal>
-    requires attribute { attribute < 8 }
-    requires few { length cuts.now ≤ MOST_CUTS }
-    ensures added { OnOk result (owners.new.items ≡ owners_added attribute cuts.now owners.old.items updates.now) }
+    ensures added { OnOk result (HaveAdded by.now.attribute by.now.cuts.now updates.now owners.old.items owners.new.items) }
     ensures left { OnErr result (owners.new.items ≡ owners.old.items) }
     ensures refused { IsOkUnless result NoMemory }
 {
-    if cuts.is_empty() {
+    if by.cuts.is_empty() {
         return Ok(());
     }
-    add_each(owners, attribute, cuts, updates)
+    if owners.reserve(updates.len()).is_err() {
+        return Err(Refusal::NoMemory);
+    }
+    add_each(owners, by, updates);
+    Ok(())
 }

@@ -18,27 +18,33 @@ use sw_set::{Area, nothing};
 /// What no set of maps is.
 pub(crate) const UNKNOWN: u64 = 0;
 
-/// The attributes that a query tests, shows or aggregates, a bit for each.
-fn attributes_used(query: &Query) -> u64 {
-    let mut used = 0u64;
+/// The attributes that a query tests, a bit for each.
+fn attributes_tested(query: &Query) -> u64 {
+    let mut tested = 0;
     for cond in query.conds.as_slice() {
-        used |= 1 << (cond.attr % 8);
+        tested |= 1 << (cond.attr % 8);
     }
-    match &query.want {
+    tested
+}
+
+/// The attributes that are shown or aggregated, a bit for each.
+fn attributes_wanted(want: &Want) -> u64 {
+    match want {
         Want::Rows(names) => {
+            let mut shown = 0;
             for name in names.as_slice() {
-                used |= 1 << (*name % 8);
+                shown |= 1 << (*name % 8);
             }
+            shown
         }
-        Want::Count => {}
-        Want::Sum(attr) | Want::Min(attr) | Want::Max(attr) => used |= 1 << (*attr % 8),
+        Want::Count => 0,
+        Want::Sum(attr) | Want::Min(attr) | Want::Max(attr) => 1 << (*attr % 8),
     }
-    used
 }
 
 /// Which maps a query uses: a bit for each attribute, and above them one for each area that it touches.
 pub(crate) fn maps_used<M: CrackerMap>(areas: &[Area<M>], query: &Query) -> u64 {
-    let mut used = attributes_used(query);
+    let mut used = attributes_tested(query) | attributes_wanted(&query.want);
     for k in 0..areas.len() {
         if areas[k].touches(query) {
             used |= 256 << (k % 16);

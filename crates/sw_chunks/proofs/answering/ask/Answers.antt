@@ -17,4 +17,4 @@ returns-clause-same g c =
 pub returns-clause-answered : goal.returns-clause-answered
 returns-clause-answered g c =
     let one : IsOneAsked c.args.k c.args.areas.now c.if-cells-gt0.areas = returns-clause-same g c in
-    if_ok-more _ _ c.reply_one.result c.reply_one.ensures.answered (λ r is d. is ∙ ap (λ l. answer l c.args.query.now) (one.here d c.index-areas-k-3.result).rows)
+    if_ok-more _ _ c.reply_one.result c.reply_one.ensures.answered (λ r is d. is ∙ ap (λ l. answer l c.args.asking.now.query.now) (one.here d c.index-areas-k-3.result).rows)

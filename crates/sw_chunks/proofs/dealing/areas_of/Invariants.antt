@@ -6,6 +6,6 @@ use Rattle.sw_chunks.proofs.dealing.areas_of.Given as goal
 -- areas of the parts before this one, and the other parts as they were dealt
 abbrev pub invariant-loop-k : goal.invariant-loop-k
 invariant-loop-k g l =
-    (l.areas.items ≡ map (opened_area l.attribute l.fn.rows.items) (take l.k (intervals l.cuts)))
-    × (length l.parts.items ≡ length l.cuts + 1)
-    × ((j : ℕ) (d : _) (i : Interval) → l.k ≤ j → j ≤ length l.cuts → (get_or l.parts.items j d).items ≡ part_of l.attribute l.fn.rows.items (get_or (intervals l.cuts) j i))
+    (l.areas.items ≡ map (opened_area l.by.attribute l.fn.rows.items) (take l.k (intervals l.by.cuts.now)))
+    × (length l.parts.items ≡ length l.by.cuts.now + 1)
+    × ((j : ℕ) (d : _) (i : Interval) → l.k ≤ j → j ≤ length l.by.cuts.now → (get_or l.parts.items j d).items ≡ part_of l.by.attribute l.fn.rows.items (get_or (intervals l.by.cuts.now) j i))

@@ -10,7 +10,7 @@ use Rattle.sw_chunks.proofs.dealing.deal.Goals as goal
 
 pub index_mut-requires : goal.index_mut-requires
 index_mut-requires c =
-    let below : c.place_in-place.result < length c.args.cuts.now + 1 = subst (λ (n : ℕ). n < length c.args.cuts.now + 1) (sym c.place_in-place.ensures) (place-below c.args.cuts.now _ c.requires.rising) in
+    let below : c.place_in-place.result < length c.args.by.now.cuts.now + 1 = subst (λ (n : ℕ). n < length c.args.by.now.cuts.now + 1) (sym c.place_in-place.ensures) (place-below c.args.by.now.cuts.now _ c.requires.rising) in
     let many = c.loop-at.invariant.0 in
     let same = c.from-in-loop-at.ensures in
     let within : c.from-in-loop-at.result < length c.loop-at.parts.items = omega (arith, below, many, same) in
@@ -22,10 +22,10 @@ loop-at-preserved c =
     let xs = c.args.rows.now.items in let n = c.loop-at.at in
     let row = c.get-row.ensures z in
     let lt : n < length xs = omega (arith, c.loop-at-test.true, c.len-at-end.ensures.many) in
-    let there : c.from-in-loop-at.result ≡ place_in c.args.cuts.now (cell_of c.args.attribute c.get-row.result) = search rules in
-    let at = there ∙ ap (λ (r : Row). place_in c.args.cuts.now (cell_of c.args.attribute r)) row in (
+    let there : c.from-in-loop-at.result ≡ place_in c.args.by.now.cuts.now (cell_of c.args.by.now.attribute c.get-row.result) = search rules in
+    let at = there ∙ ap (λ (r : Row). place_in c.args.by.now.cuts.now (cell_of c.args.by.now.attribute r)) row in (
       length-set c.loop-at.parts.items c.from-in-loop-at.result c.push_row.new.part ∙ c.loop-at.invariant.0,
-      dealt-more (λ (v : Packed). v.items) c.args.attribute c.args.cuts.now xs n z c.loop-at.parts.items c.from-in-loop-at.result c.push_row.new.part c.index_mut.result.now
+      dealt-more (λ (v : Packed). v.items) c.args.by.now.attribute c.args.by.now.cuts.now xs n z c.loop-at.parts.items c.from-in-loop-at.result c.push_row.new.part c.index_mut.result.now
           c.requires.rising lt c.loop-at.invariant.0 at
           (c.in_ok-push_row.ensures.pushed ∙ ap (λ (v : Packed). v.items ++ c.get-row.result ∷ []) c.index_mut.ensures.value
           ∙ ap (λ (r : Row). (get_or c.loop-at.parts.items c.from-in-loop-at.result c.index_mut.result.now).items ++ r ∷ []) row) c.loop-at.invariant.1,
@@ -34,4 +34,4 @@ loop-at-preserved c =
 pub returns-clause-parts : goal.returns-clause-parts
 returns-clause-parts c k d i le =
     let long : length c.args.rows.now.items ≤ c.loop-at.at = omega (arith, c.loop-at-test.false, c.len-at-end.ensures.many) in
-    c.loop-at.invariant.1 k d i le ∙ ap (λ (l : List Row). part_of c.args.attribute l (get_or (intervals c.args.cuts.now) k i)) (take_all c.loop-at.at c.args.rows.now.items long)
+    c.loop-at.invariant.1 k d i le ∙ ap (λ (l : List Row). part_of c.args.by.now.attribute l (get_or (intervals c.args.by.now.cuts.now) k i)) (take_all c.loop-at.at c.args.rows.now.items long)

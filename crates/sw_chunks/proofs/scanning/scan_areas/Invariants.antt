@@ -1,7 +1,8 @@
 use Rattle.std.proofs.Common.{◌≡◌, drop, []}
 use Rattle.sw_query.specs.Scan.{answer_over}
 use Rattle.sw_chunks.specs.Heads.{AreUntouchedSame}
-use Rattle.sw_chunks.specs.Asked.{AreAskedBefore, AreasFit, with_all}
+use Rattle.sw_chunks.specs.Asked.{AreasFit, with_all}
+use Rattle.sw_chunks.proofs.Steps.{AreAskedBefore}
 use Rattle.sw_chunks.proofs.scanning.scan_areas.Given as goal
 
 abbrev pub invariant-loop-k : goal.invariant-loop-k

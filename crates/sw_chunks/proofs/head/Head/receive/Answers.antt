@@ -12,29 +12,29 @@ pub route_all-done-requires-clause-rise : goal.route_all-done-requires-clause-ri
 route_all-done-requires-clause-rise g c κs far =
     let h : HeadState = record { attribute = c.self.inside.attribute; cuts = c.self.inside.cuts.items; updates = told_in c.self.inside.told.rows; areas = c.self.inside.areas.items } in
     let may : MayFollow h.attribute h.updates c.args.updates.now = subst (λ (s : HeadState). MayFollow s.attribute s.updates c.args.updates.now) (sym c.self.view_is) c.requires in
-    let owners = c.as_slice-3.ensures.value ∙ owners-are h c.args.updates.now c.as_slice.result.now c.self.inside.owners.items c.add_owners.new.owners.items c.self.invariant.1 c.as_slice.ensures.value c.in_ok-add_owners.ensures.added in
-    owners-rising h c.args.updates.now c.as_slice-3.result.now c.self.invariant.0 may owners
+    let owners = c.as_slice-2.ensures.value ∙ owners-are h c.args.updates.now c.as_slice.result.now c.self.inside.owners.items c.add_owners.new.owners.items c.self.invariant.1 c.as_slice.ensures.value c.in_ok-add_owners.ensures.added in
+    owners-rising h c.args.updates.now c.as_slice-2.result.now c.self.invariant.0 may owners
 
 pub route_all-done-requires-clause-within : goal.route_all-done-requires-clause-within
 route_all-done-requires-clause-within g c κs far =
     let h : HeadState = record { attribute = c.self.inside.attribute; cuts = c.self.inside.cuts.items; updates = told_in c.self.inside.told.rows; areas = c.self.inside.areas.items } in
     let may : MayFollow h.attribute h.updates c.args.updates.now = subst (λ (s : HeadState). MayFollow s.attribute s.updates c.args.updates.now) (sym c.self.view_is) c.requires in
-    let owners = c.as_slice-3.ensures.value ∙ owners-are h c.args.updates.now c.as_slice.result.now c.self.inside.owners.items c.add_owners.new.owners.items c.self.invariant.1 c.as_slice.ensures.value c.in_ok-add_owners.ensures.added in
-    places-within h c.args.updates.now _ c.as_mut_slice.result.now c.self.invariant.0 may (places-are h c.args.updates.now c.as_slice-2.result.now c.as_slice-3.result.now c.as_slice-2.ensures.value owners) c.as_mut_slice.ensures.value
+    let owners = c.as_slice-2.ensures.value ∙ owners-are h c.args.updates.now c.as_slice.result.now c.self.inside.owners.items c.add_owners.new.owners.items c.self.invariant.1 c.as_slice.ensures.value c.in_ok-add_owners.ensures.added in
+    places-within h c.args.updates.now _ c.as_mut_slice.result.now c.self.invariant.0 may (places-are h c.args.updates.now c.as_slice.result.now c.as_slice-2.result.now c.as_slice.ensures.value owners) c.as_mut_slice.ensures.value
 
 pub route_all-done-requires-clause-may : goal.route_all-done-requires-clause-may
 route_all-done-requires-clause-may g c κs far =
     let h : HeadState = record { attribute = c.self.inside.attribute; cuts = c.self.inside.cuts.items; updates = told_in c.self.inside.told.rows; areas = c.self.inside.areas.items } in
     let may : MayFollow h.attribute h.updates c.args.updates.now = subst (λ (s : HeadState). MayFollow s.attribute s.updates c.args.updates.now) (sym c.self.view_is) c.requires in
-    let owners = c.as_slice-3.ensures.value ∙ owners-are h c.args.updates.now c.as_slice.result.now c.self.inside.owners.items c.add_owners.new.owners.items c.self.invariant.1 c.as_slice.ensures.value c.in_ok-add_owners.ensures.added in
-    may-go h c.args.updates.now _ c.as_mut_slice.result.now c.self.invariant.0 may (places-are h c.args.updates.now c.as_slice-2.result.now c.as_slice-3.result.now c.as_slice-2.ensures.value owners) c.as_mut_slice.ensures.value
+    let owners = c.as_slice-2.ensures.value ∙ owners-are h c.args.updates.now c.as_slice.result.now c.self.inside.owners.items c.add_owners.new.owners.items c.self.invariant.1 c.as_slice.ensures.value c.in_ok-add_owners.ensures.added in
+    may-go h c.args.updates.now _ c.as_mut_slice.result.now c.self.invariant.0 may (places-are h c.args.updates.now c.as_slice.result.now c.as_slice-2.result.now c.as_slice.ensures.value owners) c.as_mut_slice.ensures.value
 
 pub invariant_of-self-in-Ok : goal.invariant_of-self-in-Ok
 invariant_of-self-in-Ok g c =
     let h : HeadState = record { attribute = c.self.inside.attribute; cuts = c.self.inside.cuts.items; updates = told_in c.self.inside.told.rows; areas = c.self.inside.areas.items } in
     let may : MayFollow h.attribute h.updates c.args.updates.now = subst (λ (s : HeadState). MayFollow s.attribute s.updates c.args.updates.now) (sym c.self.view_is) c.requires in
     let now = owners-are h c.args.updates.now c.as_slice.result.now c.self.inside.owners.items c.add_owners.new.owners.items c.self.invariant.1 c.as_slice.ensures.value c.in_ok-add_owners.ensures.added in
-    let places = places-are h c.args.updates.now c.as_slice-2.result.now c.as_slice-3.result.now c.as_slice-2.ensures.value (c.as_slice-3.ensures.value ∙ now) in
+    let places = places-are h c.args.updates.now c.as_slice.result.now c.as_slice-2.result.now c.as_slice.ensures.value (c.as_slice-2.ensures.value ∙ now) in
     let many : length c.route_all-done.new.areas ≡ length c.self.inside.areas.items = c.route_all-done.ensures.many ∙ ap length c.as_mut_slice.ensures.value in
     let len : c.self.inside.areas.len ≡ length c.self.inside.areas.items = search rules in
     let sent = sent-are h c.args.updates.now _ c.as_mut_slice.result.now c.route_all-done.new.areas places c.as_mut_slice.ensures.value c.in-Ok.ensures.sent in (
