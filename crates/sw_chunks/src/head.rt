@@ -311,10 +311,14 @@ impl<M: CrackerMap> Head<M> {
         Some(self.tick())
     }
 
-    /// Keeps which maps the query of a number used, after it stamped them, unless another has counted since. Where several
-    /// share the head, one may count between the look at the clock and the store: then a later use of these is not stamped.
-    fn keep_used(&self, used: u64, now: u64) {
-        if self.clock.load(Ordering::SeqCst) == now {
+    /// Keeps which maps a query used, after it stamped them with its number, if it has one, and unless another has counted
+    /// since. Where several share the head, one may count between the look at the clock and the store: then a later use of
+    /// these is not stamped.
+    fn keep_used(&self, used: u64, number: Option<u64>) {
+        let Some(number) = number else {
+            return;
+        };
+        if self.clock.load(Ordering::SeqCst) == number {
             self.used.store(used, Ordering::SeqCst);
         }
     }
@@ -329,16 +333,14 @@ impl<M: CrackerMap> Head<M> {
         ensures answered { IfOk result (λ it. IfSome it (λ reply. reply ≡ answer (rows_of self.now.updates) query.now)) }
         ensures refused { IsOkUnless result NoMemory }
     {
-        let used = maps_used(self.areas.as_slice(), query);
-        let now = self.tick_for(used);
-        let told = answer_resting(self.alloc, self.areas.as_slice(), now, query)?;
-        let Some(reply) = told else {
-            return Ok(None);
-        };
-        if let Some(now) = now {
-            self.keep_used(used, now);
+        let areas = self.areas.as_slice();
+        let used = maps_used(areas, query);
+        let number = self.tick_for(used);
+        let told = answer_resting(self.alloc, areas, number, query)?;
+        if told.is_some() {
+            self.keep_used(used, number);
         }
-        Ok(Some(reply))
+        Ok(told)
     }
 
     /// The plain answer over all rows: the areas that the query touches are merged and scanned. No map is made for it,
