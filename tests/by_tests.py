@@ -67,11 +67,11 @@ BODIES = {
                               "    for it in rest.iter_mut() {\n        if align_box(it, course).is_err() {\n"
                               "            return;\n        }\n    }\n", "test_areas"),
     "asked_a_third_time": ("An area that is short again is asked a third time",
-                           "sw_chunks/src/answering.rt", "        told = ready_again(align, &mut areas[k], query);\n",
-                           "        told = ready_again(align, &mut areas[k], query);\n        if told.is_err() {\n"
-                           "            told = ready_again(align, &mut areas[k], query);\n        }\n", "test_heads"),
+                           "sw_chunks/src/answering.rt", "        told = ready_again(asking, &mut areas[k]);\n",
+                           "        told = ready_again(asking, &mut areas[k]);\n        if told.is_err() {\n"
+                           "            told = ready_again(asking, &mut areas[k]);\n        }\n", "test_heads"),
     "use_at_rest_not_noted": ("A query that a head answers as it stands does not count as a use of its maps", "sw_chunks/src/head.rt",
-                              "        Some(now)\n", "        None\n", "test_heads"),
+                              "        Some(self.tick())\n", "        None\n", "test_heads"),
     "areas_used_alike": ("A query at rest counts as one that used the same maps, whichever areas it touches", "sw_chunks/src/resting.rt",
                          "used |= 256 << (k % 16);", "used |= 256;", "test_heads"),
     "begun_after_contention": ("A map whose growth found the budget contended is begun again",
