@@ -26,17 +26,23 @@ fn note(counts: &mut Counts, cell: i64) -> Result<(), AllocError> {
     }
 }
 
-/// The cells of a column, how often each, the most frequent first; of those that are equally frequent the one that was
-/// seen first comes first.
+/// The cells of a column, how often each was seen, in the order in which they were first seen.
+fn counted(alloc: Global, state: RandomState, cells: &[i64]) -> Result<Counts, AllocError> {
+    let mut counts: Counts = IndexMap::with_hasher(alloc, state);
+    for cell in cells {
+        note(&mut counts, *cell)?;
+    }
+    Ok(counts)
+}
+
+/// The cells of a column, each behind `u64::MAX` less how often it was seen, so that the most frequent one stands first; of
+/// those that are equally frequent the one that was seen first comes first.
 fn ordered(
     alloc: Global,
     state: RandomState,
     cells: &[i64],
 ) -> Result<Vec<(u64, i64)>, AllocError> {
-    let mut counts: Counts = IndexMap::with_hasher(alloc, state);
-    for cell in cells {
-        note(&mut counts, *cell)?;
-    }
+    let counts = counted(alloc, state, cells)?;
     let mut found = Vec::new(alloc);
     for (cell, count) in counts.iter() {
         found.push((u64::MAX - *count, *cell))?;
