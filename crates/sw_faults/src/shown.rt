@@ -103,18 +103,30 @@ const BEFORE: usize = 60;
 
 const BEHIND: usize = 40;
 
+/// Adds the characters of a script's line that are shown, from the one of a number on.
+fn add_line(text: &mut String, line: &str, from: usize) -> Result<(), AllocError> {
+    for c in line.chars().skip(from).take(BEFORE + BEHIND) {
+        text.push(in_line(c))?;
+    }
+    Ok(())
+}
+
+/// Adds so many blanks.
+fn add_blanks(text: &mut String, many: usize) -> Result<(), AllocError> {
+    for _ in 0..many {
+        text.push(' ')?;
+    }
+    Ok(())
+}
+
 /// A line of a script with a caret under its character of a number, from 0: two lines, each with its end. Of a long line
 /// what stands about that place is shown.
 pub(crate) fn pointed(alloc: Global, line: &str, column: usize) -> Result<String, AllocError> {
     let from = column.saturating_sub(BEFORE);
     let mut text = String::from_str(alloc, if from > 0 { "  .." } else { "  " })?;
-    for c in line.chars().skip(from).take(BEFORE + BEHIND) {
-        text.push(in_line(c))?;
-    }
+    add_line(&mut text, line, from)?;
     text.push_str(if from > 0 { "\n    " } else { "\n  " })?;
-    for _ in 0..column.min(BEFORE) {
-        text.push(' ')?;
-    }
+    add_blanks(&mut text, column.min(BEFORE))?;
     text.push_str("^\n")?;
     Ok(text)
 }

@@ -137,6 +137,16 @@ impl Words {
         write_word("least", &self.least, place, out)?;
         write_last("greatest", &self.greatest, place, out)
     }
+
+    /// Writes what stands over the words, and then a line for each attribute.
+    fn write<W: Sink>(&self, out: &mut W) -> Result<(), Refusal>
+        ensures { IsOkUnless result Refusal.Output }
+    {
+        for place in 0..=self.names.len() {
+            self.write_line(place, out)?;
+        }
+        Ok(())
+    }
 }
 
 /// Writes what stands over the words of one sort at place 0, and those at the places from 1 on.
@@ -232,9 +242,7 @@ pub fn write_description<W: Sink>(
     write_all(out, b"rows ")?;
     write_number(rows as u64, out)?;
     write_all(out, b"\n\n")?;
-    for place in 0..=words.names.len() {
-        words.write_line(place, out)?;
-    }
+    words.write(out)?;
     for attr in 0..columns.len() {
         if attr < schema.len() {
             write_frequent(alloc, schema, attr, &columns[attr], out)?;

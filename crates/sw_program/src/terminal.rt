@@ -97,16 +97,22 @@ pub(crate) struct Terminal<'t, 'p, 'o, 'e, R: Files + Clock + Print + Eprint, E:
     status: u8,
 }
 
-/// The attributes alone, without the texts that are known.
-fn bare(alloc: Global, key: TextKey, schema: &Schema) -> Result<Option<Schema>, AllocError> {
-    let mut names = Vec::new(alloc);
+/// The attributes as a header has them: the name of each with its kind.
+fn fields_of(alloc: Global, schema: &Schema) -> Result<Vec<String>, AllocError> {
+    let mut fields = Vec::new(alloc);
     for attr in 0..schema.len() {
         let kind = kind_name(schema.kind(attr));
-        names.push(format!(in alloc; "{}:{kind}", schema.name(attr))?)?;
+        fields.push(format!(in alloc; "{}:{kind}", schema.name(attr))?)?;
     }
+    Ok(fields)
+}
+
+/// The attributes alone, without the texts that are known.
+fn bare(alloc: Global, key: TextKey, schema: &Schema) -> Result<Option<Schema>, AllocError> {
+    let owned = fields_of(alloc, schema)?;
     let mut fields = Vec::new(alloc);
-    for name in &names {
-        fields.push(name.as_str())?;
+    for field in &owned {
+        fields.push(field.as_str())?;
     }
     Ok(Schema::of(alloc, key, fields.as_slice()).ok())
 }
