@@ -20,6 +20,7 @@ use Rattle.sw_spine.specs.declared.history.Entry.{Entry}
 use Rattle.sw_histories.specs.FromTokens.{IsCount, data_from, items_from, members_from}
 use Rattle.sw_histories.specs.RecordReading.{Frame, array_at, columns_in, entries_after, frame, frame_of, has_members, history_of, items_list, limit_in, or_fault, rows_after, rows_up_to}
 use Rattle.sw_histories.specs.Told.{◌>>=◌, Reads}
+use Rattle.sw_histories.specs.declared.reading.outline.ArrayOf.{ArrayOf}
 use Rattle.sw_histories.specs.declared.reading.outline.ItemsAt.{ItemsAt}
 use Rattle.sw_histories.specs.declared.reading.outline.Outline.{Outline}
 use Rattle.sw_histories.specs.declared.reading.Front.{Front}
@@ -159,6 +160,10 @@ pub record IsOutline (old new : List Token) (o : Outline) : Type 0 where
 -- the values of the array that is the value of the member after so many others, in an object that the tokens begin
 abbrev pub values_at : ℕ → List Token → Option (List Data)
 values_at n ts = option_and_then (values_after n) (after_brace ts)
+
+-- the values of an array of a text's object
+abbrev pub values_of : ArrayOf → Option (List Data)
+values_of items = values_at items.at.place (tokens items.text.now)
 
 -- no value, or one that is no object
 abbrev pub NoObject : Option Data → Type 0

@@ -16,9 +16,9 @@ mod outline;
 mod rows;
 pub(crate) mod values;
 
-use crate::reading::entries::read_entries_at;
+use crate::reading::entries::read_entries_of;
 use crate::reading::members::{array_at, has_members, number_at};
-use crate::reading::outline::{Outline, read_outline};
+use crate::reading::outline::{ArrayOf, Outline, read_outline};
 use crate::reading::rows::{read_header, read_rows_up_to};
 use crate::reading::values::{NoValue, read};
 use crate::writing::least_format;
@@ -124,7 +124,7 @@ fn read_outside(
         format,
         limit,
     } = front;
-    match read_rows_up_to(alloc, &mut schema, limit, text, scratch, at) {
+    match read_rows_up_to(alloc, &mut schema, limit, ArrayOf { text, at }, scratch) {
         Ok(Some(rows)) => Ok(Some(Outer {
             schema,
             format,
@@ -169,7 +169,8 @@ fn read_outlined(
         limit,
         rows,
     } = outer;
-    match read_entries_at(alloc, format, &mut schema, text, scratch, entries.place) {
+    let items = ArrayOf { text, at: entries };
+    match read_entries_of(alloc, format, &mut schema, items, scratch) {
         Ok(entries) => Ok(Record {
             schema,
             rows,

@@ -1,19 +1,18 @@
 //! Entries of a history.
 
 ghost use Rattle.std.specs.Prelude.{◌≡◌, ◌≤◌, [], length, map, option_map, string_bytes, IfErr, IfOk, IsOkUnless, OnOk};
-ghost use Rattle.json.specs.Lex.{tokens};
 ghost use Rattle.serde_json.specs.View.{view};
 ghost use Rattle.sw_lang.specs.Learning.{learned};
 ghost use Rattle.sw_spine.specs.History.{AllBelow, CallsBelow};
 ghost use Rattle.sw_spine.specs.declared.spine.TheConstants.{MOST_ENTRIES};
 ghost use Rattle.sw_histories.specs.FromTokens.{AreFew};
-ghost use Rattle.sw_histories.specs.Outlines.{ReadsEntries, values_at, values_in};
+ghost use Rattle.sw_histories.specs.Outlines.{ReadsEntries, values_in, values_of};
 ghost use Rattle.sw_histories.specs.Told.{Reads, TellsText};
 ghost use Rattle.sw_histories.specs.RecordReading.{call_in, entry_in, entry_learned, has_call, may_stand, state_in, texts_after, word_in};
 
 use super::no_history;
 use crate::reading::members::{has_members, number_at, text_at, texts};
-use crate::reading::outline::enter;
+use crate::reading::outline::{ArrayOf, enter};
 use crate::reading::values::{NoValue, read};
 use crate::writing::is_delete_where;
 use json::{Reader, Scratch};
@@ -224,25 +223,24 @@ fn read_entries(
     Ok(entries)
 }
 
-/// The entries of a text's object, of which the array is the value of the member after so many others.
-pub(super) fn read_entries_at(
+/// The entries of an array of a text's object.
+pub(super) fn read_entries_of(
     alloc: Global,
     format: u64,
     schema: &mut Schema,
-    text: &str,
+    items: ArrayOf<'_>,
     scratch: &mut Scratch,
-    place: usize,
 ) -> Result<Vec<KeptEntry>, Refusal>
-    requires { AreFew (values_at place (tokens text.now)) }
-    ensures answers { ReadsEntries format schema.old schema.new (values_at place (tokens text.now)) result }
+    requires { AreFew (values_of items) }
+    ensures answers { ReadsEntries format schema.old schema.new (values_of items.entry) result }
     ensures below { IfOk result (λ entries. AllBelow (length schema.new) entries.items) }
     ensures few { IfOk result (λ entries. length entries.items ≤ MOST_ENTRIES) }
     ensures why { IfErr result TellsText }
 {
-    let Ok(mut reader) = Reader::new(text, scratch) else {
+    let Ok(mut reader) = Reader::new(items.text, scratch) else {
         return Err(Refusal::NoMemory);
     };
-    match enter(&mut reader, place) {
+    match enter(&mut reader, items.at.place) {
         Ok(()) => read_entries(alloc, format, schema, &mut reader),
         Err(_) => unreachable!(),
     }

@@ -127,6 +127,13 @@ pub(crate) struct ItemsAt {
     pub(crate) count: usize,
 }
 
+/// An array of a text's object: the text, and where the array's items stand.
+#[derive(Clone, Copy, Drop)]
+pub(crate) struct ArrayOf<'t> {
+    pub(crate) text: &'t str,
+    pub(crate) at: ItemsAt,
+}
+
 /// An object without its entries and its rows.
 #[derive(Drop)]
 pub(crate) struct Outline {

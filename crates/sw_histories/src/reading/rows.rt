@@ -2,7 +2,6 @@
 
 ghost use Rattle.std.specs.Prelude.{◌≡◌, ◌≤◌, ℕ, List, [], Some, None, true, if◌then◌else◌, filter_map, map, option_map, IfOk, IfSome, OnOk};
 ghost use Rattle.std.specs.List.{cons_option};
-ghost use Rattle.json.specs.Lex.{tokens};
 ghost use Rattle.serde_json.specs.View.{view};
 ghost use Rattle.sw_rows.specs.Domains.{domain};
 ghost use Rattle.sw_rows.specs.Domains as kind;
@@ -11,11 +10,11 @@ ghost use Rattle.sw_rows.specs.Texts.{is_text};
 ghost use Rattle.sw_rows.specs.declared.table.TheConstants.{MOST_ROWS};
 ghost use Rattle.sw_lang.specs.Learning.{knowing};
 ghost use Rattle.sw_histories.specs.FromTokens.{AreCounted, AreFew};
-ghost use Rattle.sw_histories.specs.Outlines.{ReadsRows, ReadsRowsUpTo, values_at, values_in};
+ghost use Rattle.sw_histories.specs.Outlines.{ReadsRows, ReadsRowsUpTo, values_in, values_of};
 ghost use Rattle.sw_histories.specs.RecordReading.{cell_in, cells_of, header_in, number_in, of_kind, row_learned, row_read, text_in};
 
 use crate::reading::members::{array_at, texts};
-use crate::reading::outline::{ItemsAt, enter};
+use crate::reading::outline::{ArrayOf, enter};
 use crate::reading::values::{NoValue, read};
 use json::{Reader, Scratch};
 use serde_json::Value;
@@ -198,22 +197,21 @@ fn read_rows(
     Ok(Some(rows))
 }
 
-/// The rows of a text's object, of which the array stands at a place.
-fn read_rows_at(
+/// The rows of an array of a text's object.
+fn read_rows_of(
     alloc: Global,
     schema: &mut Schema,
-    text: &str,
+    items: ArrayOf<'_>,
     scratch: &mut Scratch,
-    at: ItemsAt,
 ) -> Result<Option<PackedRows>, AllocError>
-    requires { AreFew (values_at at.place (tokens text.now)) }
-    ensures { IfOk result (ReadsRows schema.old schema.new (values_at at.place (tokens text.now))) }
+    requires { AreFew (values_of items) }
+    ensures { IfOk result (ReadsRows schema.old schema.new (values_of items.entry)) }
 {
-    let Ok(mut reader) = Reader::new(text, scratch) else {
+    let Ok(mut reader) = Reader::new(items.text, scratch) else {
         return Err(AllocError);
     };
-    match enter(&mut reader, at.place) {
-        Ok(()) => read_rows(alloc, schema, &mut reader, at.count),
+    match enter(&mut reader, items.at.place) {
+        Ok(()) => read_rows(alloc, schema, &mut reader, items.at.count),
         Err(_) => unreachable!(),
     }
 }
@@ -223,16 +221,15 @@ pub(super) fn read_rows_up_to(
     alloc: Global,
     schema: &mut Schema,
     limit: u64,
-    text: &str,
+    items: ArrayOf<'_>,
     scratch: &mut Scratch,
-    at: ItemsAt,
 ) -> Result<Option<PackedRows>, AllocError>
-    requires counted { AreCounted (values_at at.place (tokens text.now)) at.count }
+    requires counted { AreCounted (values_of items) items.at.count }
     requires most { limit ≤ MOST_ROWS }
-    ensures { IfOk result (ReadsRowsUpTo schema.old schema.new limit (values_at at.place (tokens text.now))) }
+    ensures { IfOk result (ReadsRowsUpTo schema.old schema.new limit (values_of items.entry)) }
 {
-    if at.count as u64 > limit {
+    if items.at.count as u64 > limit {
         return Ok(None);
     }
-    read_rows_at(alloc, schema, text, scratch, at)
+    read_rows_of(alloc, schema, items, scratch)
 }

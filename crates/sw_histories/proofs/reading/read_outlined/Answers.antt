@@ -51,12 +51,12 @@ invariant_of-result c =
       most = sound.most;
       few = sound.few;
       numbered = sound.numbered;
-      short = c.in-Ok-read_entries_at.ensures.few;
-      below = c.in-Ok-read_entries_at.ensures.below;
+      short = c.in-Ok-read_entries_of.ensures.few;
+      below = c.in-Ok-read_entries_of.ensures.below;
     }
 
-pub returns-in-Ok-read_entries_at-clause-answers : goal.returns-in-Ok-read_entries_at-clause-answers
-returns-in-Ok-read_entries_at-clause-answers c =
+pub returns-in-Ok-read_entries_of-clause-answers : goal.returns-in-Ok-read_entries_of-clause-answers
+returns-in-Ok-read_entries_of-clause-answers c =
     let h = c.requires in
     let o = c.in-Some-read.outer in
     let at = stood c.args.text.now c.args.outline c.in-Some.entries h c.in-Some.is in
@@ -65,7 +65,7 @@ returns-in-Ok-read_entries_at-clause-answers c =
     let f = frame o.schema o.format o.limit o.rows.items at.values in
     let count : c.in-Some.entries.count ≤ MOST_ENTRIES = omega arith in
     let few : length at.values ≤ MOST_ENTRIES = omega (arith, at.counted.0 count, count) in
-    let read = some_at _ at.values _ at.stands c.in-Ok-read_entries_at.ensures.answers in
+    let read = some_at _ at.values _ at.stands c.in-Ok-read_entries_of.ensures.answers in
     record_is c.args.text.now h.all f h.read (outer_some h.all at.values o.schema o.format o.limit o.rows.items at.there some) ∙ few_enough f few ∙ ap (λ r. r >>= λ x. Ok (history_with f x)) read
 
 pub returns-in-Err-clause-answers : goal.returns-in-Err-clause-answers
