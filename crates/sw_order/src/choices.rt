@@ -413,18 +413,29 @@ impl Choices {
         Ok(())
     }
 
+    /// Adds what those of unknown outcome among the first so many members ask for.
+    fn extend_unknown(
+        &mut self,
+        problem: &Problem,
+        state: &State,
+        count: usize,
+    ) -> Result<(), AllocError> {
+        for place in 0..count {
+            let number = at(&self.members, place, 0);
+            if !problem.task(number).is_known {
+                self.extend(problem, state, number)?;
+            }
+        }
+        Ok(())
+    }
+
     /// Adds what members of unknown outcome ask for until the time by which others may have begun stays.
     fn close_all(&mut self, problem: &Problem, state: &State) -> Result<(), AllocError> {
         self.close(problem, state)?;
         for _ in 0..u64::MAX {
             let before = self.latest;
             let count = self.members.len();
-            for place in 0..count {
-                let number = at(&self.members, place, 0);
-                if !problem.task(number).is_known {
-                    self.extend(problem, state, number)?;
-                }
-            }
+            self.extend_unknown(problem, state, count)?;
             self.close(problem, state)?;
             if self.latest == before && self.members.len() == count {
                 return Ok(());

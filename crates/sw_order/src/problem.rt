@@ -7,6 +7,35 @@ use crate::tasks::{MANY, NO_TASK, Range, Task, Weigh};
 use std::alloc::Global;
 use sw_logs::By;
 
+/// Rows among which those stand that meet some conditions.
+#[derive(Clone, Copy)]
+pub(crate) enum Near<'a> {
+    /// These.
+    These(&'a [usize]),
+    /// All rows: how many there are.
+    All(usize),
+}
+
+impl Near<'_> {
+    /// How many there are.
+    #[inline]
+    pub(crate) fn len(&self) -> usize {
+        match self {
+            Near::These(rows) => rows.len(),
+            Near::All(count) => *count,
+        }
+    }
+
+    /// The row at a place; the number of none where there are no more.
+    #[inline]
+    pub(crate) fn row(&self, place: usize) -> usize {
+        match self {
+            Near::These(rows) => at(rows, place, usize::MAX),
+            Near::All(_) => place,
+        }
+    }
+}
+
 /// The calls with the rows that may ever live.
 pub(crate) struct Problem {
     pub(crate) tasks: Vec<Task>,
@@ -113,15 +142,21 @@ impl Problem {
         true
     }
 
+    /// Whether one of a call's conditions takes no cell that a range takes.
+    fn is_apart(&self, range: &Range, task: &Task) -> bool {
+        for second in self.ranges_of(task) {
+            if range.attr == second.attr && (range.high < second.low || second.high < range.low) {
+                return true;
+            }
+        }
+        false
+    }
+
     /// Whether no row can meet the conditions of both calls.
     pub(crate) fn are_apart(&self, one: &Task, other: &Task) -> bool {
         for range in self.ranges_of(one) {
-            for second in self.ranges_of(other) {
-                if range.attr == second.attr
-                    && (range.high < second.low || second.high < range.low)
-                {
-                    return true;
-                }
+            if self.is_apart(range, other) {
+                return true;
             }
         }
         false
@@ -146,12 +181,14 @@ impl Problem {
         best
     }
 
-    /// Rows among which those of a call's conditions are; None where they may be any.
-    pub(crate) fn near(&self, task: &Task) -> Option<&[usize]> {
-        let (attr, span) = self.fewest(task)?;
+    /// Rows among which those of a call's conditions are.
+    pub(crate) fn near(&self, task: &Task) -> Near<'_> {
+        let Some((attr, span)) = self.fewest(task) else {
+            return Near::All(self.cells.len());
+        };
         match self.indexes.get(attr) {
-            Some(index) => Some(items_of(&index.rows, span)),
-            None => None,
+            Some(index) => Near::These(items_of(&index.rows, span)),
+            None => Near::All(self.cells.len()),
         }
     }
 

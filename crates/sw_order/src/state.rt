@@ -236,6 +236,12 @@ impl State {
         Ok(())
     }
 
+    /// Whether a row lives and meets a call's conditions.
+    #[inline]
+    fn is_met(&self, problem: &Problem, task: &Task, row: usize) -> bool {
+        self.is_live(row) && problem.meets(task, row)
+    }
+
     /// The live rows that meet a call's conditions.
     pub(crate) fn rows_of(
         &self,
@@ -243,42 +249,24 @@ impl State {
         task: &Task,
         out: &mut Vec<usize>,
     ) -> Result<(), AllocError> {
-        match problem.near(task) {
-            Some(rows) => {
-                for row in rows {
-                    if self.is_live(*row) && problem.meets(task, *row) {
-                        out.push(*row)?;
-                    }
-                }
-            }
-            None => {
-                for row in 0..self.live.len() {
-                    if self.is_live(row) {
-                        out.push(row)?;
-                    }
-                }
+        let near = problem.near(task);
+        for place in 0..near.len() {
+            let row = near.row(place);
+            if self.is_met(problem, task, row) {
+                out.push(row)?;
             }
         }
         Ok(())
     }
 
-    /// The sum of a call over the rows that live.
+    /// The sum of a call over the live rows that meet its conditions.
     fn sum_of(&self, problem: &Problem, task: &Task) -> i128 {
+        let near = problem.near(task);
         let mut sum: i128 = 0;
-        match problem.near(task) {
-            Some(rows) => {
-                for row in rows {
-                    if self.is_live(*row) && problem.meets(task, *row) {
-                        sum = sum.wrapping_add(problem.weight(task, *row, self.key(*row)));
-                    }
-                }
-            }
-            None => {
-                for row in 0..self.live.len() {
-                    if self.is_live(row) {
-                        sum = sum.wrapping_add(problem.weight(task, row, self.key(row)));
-                    }
-                }
+        for place in 0..near.len() {
+            let row = near.row(place);
+            if self.is_met(problem, task, row) {
+                sum = sum.wrapping_add(problem.weight(task, row, self.key(row)));
             }
         }
         sum

@@ -93,20 +93,31 @@ pub(crate) struct Place<'a> {
 }
 
 impl Place<'_> {
-    /// The rows of a reply, by their keys.
-    fn reply_rows(&self, rows: &[usize], attrs: &[usize]) -> Result<Reply, AllocError> {
+    /// Rows with their keys before them, by their keys.
+    fn by_key(&self, rows: &[usize]) -> Result<Vec<(u64, usize)>, AllocError> {
         let mut keyed = Vec::with_capacity(self.alloc, rows.len())?;
         for row in rows {
             keyed.push((self.state.key(*row), *row))?;
         }
         keyed.sort_unstable();
+        Ok(keyed)
+    }
+
+    /// The cells of a row that are asked for.
+    fn cells_of(&self, row: usize, attrs: &[usize]) -> Result<Vec<i64>, AllocError> {
+        let mut cells = Vec::with_capacity(self.alloc, attrs.len())?;
+        for attr in attrs {
+            cells.push(self.problem.cell(row, *attr))?;
+        }
+        Ok(cells)
+    }
+
+    /// The rows of a reply, by their keys.
+    fn reply_rows(&self, rows: &[usize], attrs: &[usize]) -> Result<Reply, AllocError> {
+        let keyed = self.by_key(rows)?;
         let mut shown = ReplyRows::new(self.alloc);
-        let mut cells = Vec::new(self.alloc);
         for (key, row) in &keyed {
-            cells.clear();
-            for attr in attrs {
-                cells.push(self.problem.cell(*row, *attr))?;
-            }
+            let cells = self.cells_of(*row, attrs)?;
             shown.push(*key, cells.as_slice())?;
         }
         Ok(Reply::Rows(shown))

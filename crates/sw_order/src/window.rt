@@ -31,6 +31,23 @@ fn is_reached(state: &State, task: &Task, before: usize) -> bool {
     at(&state.heads, task.session, 0) >= before
 }
 
+/// Adds the calls of known outcome that their sessions have to place next, where they began by a time.
+fn add_heads(
+    problem: &Problem,
+    state: &State,
+    by: u64,
+    out: &mut Vec<usize>,
+) -> Result<(), AllocError> {
+    for session in 0..problem.sessions.len() {
+        if let Some(number) = head(problem, state, session) {
+            if problem.task(number).start <= by {
+                out.push(number)?;
+            }
+        }
+    }
+    Ok(())
+}
+
 /// The calls that may come next, as far as sessions and times tell. Those of unknown outcome stand behind.
 pub(crate) fn next_calls(
     problem: &Problem,
@@ -38,13 +55,7 @@ pub(crate) fn next_calls(
     out: &mut Vec<usize>,
 ) -> Result<(), AllocError> {
     let least = soonest(problem, state);
-    for session in 0..problem.sessions.len() {
-        if let Some(number) = head(problem, state, session) {
-            if problem.task(number).start <= least {
-                out.push(number)?;
-            }
-        }
-    }
+    add_heads(problem, state, least, out)?;
     for (number, before) in &problem.loose {
         let task = problem.task(*number);
         if !state.is_placed(*number) && task.start <= least && is_reached(state, &task, *before) {
@@ -77,6 +88,23 @@ fn add_begun(
     Ok(())
 }
 
+/// Adds the calls of known outcome that began by a time and are not placed; where a call is of known outcome, none of its
+/// own session.
+fn add_begun_beside(
+    problem: &Problem,
+    state: &State,
+    task: &Task,
+    by: u64,
+    out: &mut Vec<usize>,
+) -> Result<(), AllocError> {
+    for session in 0..problem.sessions.len() {
+        if !(task.is_known && session == task.session) {
+            add_begun(problem, state, session, by, out)?;
+        }
+    }
+    Ok(())
+}
+
 /// The calls that are not placed and may come before one, which is not among them.
 pub(crate) fn may_precede(
     problem: &Problem,
@@ -85,12 +113,7 @@ pub(crate) fn may_precede(
     by: u64,
     out: &mut Vec<usize>,
 ) -> Result<(), AllocError> {
-    let task = problem.task(number);
-    for session in 0..problem.sessions.len() {
-        if !(task.is_known && session == task.session) {
-            add_begun(problem, state, session, by, out)?;
-        }
-    }
+    add_begun_beside(problem, state, &problem.task(number), by, out)?;
     for (other, _) in &problem.loose {
         if *other != number && !state.is_placed(*other) && problem.task(*other).start <= by {
             out.push(*other)?;
