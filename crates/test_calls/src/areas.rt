@@ -119,15 +119,21 @@ impl<M: CrackerMap> Alone<M> {
     }
 }
 
+/// Tells a key, once for each of some areas that has it.
+fn see_key<R: Print, M: CrackerMap>(rt: &R, areas: &[Area<M>], key: u64) -> io::Result<()> {
+    for area in areas {
+        if area.holds(key) {
+            print!(rt; " {key}")?;
+        }
+    }
+    Ok(())
+}
+
 /// Tells the keys below 16 that areas have.
 pub(crate) fn see_keys<R: Print, M: CrackerMap>(rt: &R, areas: &[Area<M>]) -> io::Result<()> {
     print!(rt; "= keys")?;
     for key in 0..16u64 {
-        for area in areas {
-            if area.holds(key) {
-                print!(rt; " {key}")?;
-            }
-        }
+        see_key(rt, areas, key)?;
     }
     Ok(())
 }

@@ -153,12 +153,18 @@ impl Beginnings {
     }
 }
 
+/// Tells what one viewer saw.
+fn show_looks(text: &mut String, looks: &[Seen]) -> Result<(), AllocError> {
+    for look in looks {
+        write!(text, "; {} seen", look.reply)?;
+    }
+    Ok(())
+}
+
 /// Tells what viewers saw.
 pub(crate) fn show_seen(text: &mut String, seen: &[Vec<Seen>]) -> Result<(), AllocError> {
     for one in seen {
-        for look in one {
-            write!(text, "; {} seen", look.reply)?;
-        }
+        show_looks(text, one.as_slice())?;
     }
     Ok(())
 }

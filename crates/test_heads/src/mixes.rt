@@ -412,26 +412,63 @@ fn mix_over<R: Threads + Sync>(
     Ok(())
 }
 
-/// Makes the mixes of a group over boxes of one kind, up to the first with which something is wrong.
+/// Makes mixes over boxes of one kind, of which each of these numbers is there at first, up to the first mix with which
+/// something is wrong.
+fn mixes_by_number<R: Threads + Sync>(
+    rt: &R,
+    mix: &mut Mix,
+    numbers: &[usize],
+    kind: Boxes,
+    text: &mut String,
+) -> Result<(), Fail> {
+    for first in numbers {
+        if text.is_empty() {
+            let boxes = Boxes {
+                first: *first,
+                ..kind
+            };
+            mix_over(rt, mix, boxes, text)?;
+        }
+    }
+    Ok(())
+}
+
+/// Makes the mixes of a group over boxes with one trouble, up to the first with which something is wrong.
 fn mixes_over<R: Threads + Sync>(
     rt: &R,
     mix: &mut Mix,
-    group: Group<'_>,
+    group: &Group<'_>,
     trouble: Trouble,
     text: &mut String,
 ) -> Result<(), Fail> {
     for capacity in group.capacities {
-        for first in group.boxes {
-            if text.is_empty() {
-                let boxes = Boxes {
-                    first: *first,
-                    later: 8,
-                    capacity: *capacity,
-                    trouble,
-                };
-                mix_over(rt, mix, boxes, text)?;
-            }
-        }
+        let kind = Boxes {
+            first: 0,
+            later: 8,
+            capacity: *capacity,
+            trouble,
+        };
+        mixes_by_number(rt, mix, group.boxes, kind, text)?;
+    }
+    Ok(())
+}
+
+/// Makes the mixes of a group, up to the first with which something is wrong.
+fn mix_group<R: Threads + Sync>(
+    rt: &R,
+    alloc: Global,
+    group: &Group<'_>,
+    text: &mut String,
+) -> Result<(), Fail> {
+    let mut mix = Mix {
+        alloc,
+        recipe: group.recipe,
+        lines: Lines::new(group.seed),
+        cuts: group.cuts,
+        scans: 0,
+    };
+    for trouble in group.troubles {
+        mixes_over(rt, &mut mix, group, *trouble, text)?;
     }
     Ok(())
 }
@@ -444,16 +481,7 @@ fn mix_all<R: Threads + Sync>(
     text: &mut String,
 ) -> Result<(), Fail> {
     for group in groups {
-        let mut mix = Mix {
-            alloc,
-            recipe: group.recipe,
-            lines: Lines::new(group.seed),
-            cuts: group.cuts,
-            scans: 0,
-        };
-        for trouble in group.troubles {
-            mixes_over(rt, &mut mix, *group, *trouble, text)?;
-        }
+        mix_group(rt, alloc, group, text)?;
     }
     Ok(())
 }

@@ -8,6 +8,7 @@ use sw_budget::Budget;
 use sw_lang::parse_known;
 use sw_map::{CrackerMap, PairMap};
 use sw_rows::Reply;
+use sw_set::Area;
 
 /// How often a call is made again.
 const TURNS: usize = 3;
@@ -27,13 +28,18 @@ const CALLS: &[(&str, u64)] = &[
     ("count where a < 10", 2),
 ];
 
+/// Adds the keys below 16 that an area has.
+fn add_keys<M: CrackerMap>(area: &Area<M>, held: &mut [bool; 16]) {
+    for key in 0..16usize {
+        held[key] = held[key] || area.holds(key as u64);
+    }
+}
+
 /// Which of the keys below 16 a head has, as its areas tell.
 fn keys<M: CrackerMap>(trial: &Trial<M>) -> [bool; 16] {
     let mut held = [false; 16];
     for area in trial.head.head().areas() {
-        for key in 0..16usize {
-            held[key] = held[key] || area.holds(key as u64);
-        }
+        add_keys(area, &mut held);
     }
     held
 }
