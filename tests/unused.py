@@ -9,6 +9,8 @@ from pathlib import Path
 
 TOP = Path(__file__).resolve().parents[1]
 IMPORT = re.compile(r"(?m)^([ ]*)((?:ghost )?use [\w.]+)\.\{([^}]*)\}(;?)\n")
+TEXT = re.compile(r'"(?:[^"\\\n]|\\.)*"')
+COMMENT = re.compile(r"(?<!\S)--.*")
 CLAUSE = re.compile(r"\b(?:requires|ensures|invariant|decreases|keeps|ghost(?! use))\b")
 
 
@@ -39,8 +41,8 @@ def body_of(page):
     """What of a page can use a name."""
     text = page.read_text(encoding="utf-8")
     if page.suffix == ".rt":
-        return clauses_of(re.sub(r"//.*", "", text))
-    return IMPORT.sub("", re.sub(r"--.*", "", text) + "\n")
+        return clauses_of(re.sub(r"//.*", "", TEXT.sub('""', text)))
+    return IMPORT.sub("", COMMENT.sub("", TEXT.sub('""', text)) + "\n")
 
 
 def is_used(name, body):

@@ -1,5 +1,6 @@
 -- The blocks of a script, and their calls.
-use Rattle.std.specs.Prelude.{◌≡◌, ◌≤◌, ◌<◌, ◌+◌, ◌++◌, ◌&&◌, ℕ, Bool, All, List, [], ◌∷◌, bytes_eq, codes, take, length, map, nat_le, nat_lt, Option, Some, None, Result, Ok, Err, if◌then◌else◌}
+use Rattle.std.specs.Prelude.{◌≡◌, ◌≤◌, ◌<◌, ◌+◌, ◌++◌, ◌&&◌, ℕ, Bool, All, List, [], ◌∷◌, bytes_eq, codes, drop, take, length, map, nat_le, nat_lt, Option, Some, None, Result, Ok, Err, if◌then◌else◌}
+use Rattle.std.specs.List.{list_all}
 use Rattle.std.specs.Str.{is_utf8}
 use Rattle.bstr.specs.Text.{lines_of, without_terminator}
 use Rattle.sw_rows.specs.Header.{Column}
@@ -11,6 +12,7 @@ use Rattle.sw_cli.specs.declared.script.TheConstants.{MOST_BLOCKS, MOST_CALLS}
 use Rattle.sw_lang.specs.declared.reading.parse.TheConstants.{MOST_LINE}
 use Rattle.sw_lang.specs.Learning.{learned}
 use Rattle.sw_lang.specs.Reading.{line_at, refused}
+use Rattle.sw_lang.specs.Tokens.{is_blank}
 use Rattle.sw_spine.specs.History.{CallsBelow}
 use Rattle.sw_histories.specs.Told.{◌>>=◌}
 
